@@ -1,0 +1,1 @@
+-- Laws of labels: a field has at most one label's length, the computed one is it, and each answer of the check is settled.

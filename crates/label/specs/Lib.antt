@@ -1,0 +1,4 @@
+pub mod Label
+pub mod Length
+pub mod Laws
+pub mod Parts
