@@ -1,0 +1,71 @@
+-- What comes back: the answer, and the rows after the call.
+use Prim.Native.Nat.{ℕ, _-_}
+use mathlib.Core.Bool.{Bool, true, false}
+use mathlib.Core.List.{List, _++_}
+use lib.ListN.{length, drop}
+use lib.Dec.{ltb}
+use Rattle.rules.specs.Folds.{listed}
+use Rattle.rules.specs.Records.{Read, read, stopped}
+use Rattle.rules.specs.Reading.{Deadline, no-deadline, by, Request, read-request}
+use Rattle.rules.specs.Workflow.{Workflow, workflow}
+use Rattle.rules.specs.Cycle.{cyclic, lowest-in-cycle}
+use Rattle.rules.specs.Ranks.{cheapest-total}
+use Rattle.rules.specs.Method.{Method, HBCS}
+use Rattle.rules.specs.Placing.{Row, Placed, row-of, spent, length-of, Placing, so-far, stuck, place}
+
+-- What is decided: a plan of this workflow with its tasks placed, or a refusal, number and place.
+pub data Outcome : Type 0 where
+  plan : Workflow → List Placed → Outcome
+  refusal : (number place : ℕ) → Outcome
+
+-- A refusal where the test holds, else what the later checks say.
+unfoldable pub refuse : Bool → ℕ → ℕ → Outcome → Outcome
+refuse true number place later = refusal number place
+refuse false number place later = later
+
+-- "length above the deadline"
+unfoldable pub too-late : Deadline → ℕ → Bool
+too-late no-deadline length = false
+too-late (by d) length = ltb d length
+
+-- 10: "some task has no processor it may take", place "that task"; 11: place "the length".
+unfoldable pub placed-outcome : Workflow → Placing → Outcome
+placed-outcome W (stuck i) = refusal 10 i
+placed-outcome W (so-far rows) = refuse (too-late (W .deadline) (length-of rows)) 11 (length-of rows) (plan W rows)
+
+-- "After reading: 7, 8, 9, then placing with 10, then 11", by any method, with so many rows lent.
+-- 7: "fewer than n rows lent", place n; 8: "lowest task with a path back to itself"; 9: "the cheapest total".
+unfoldable pub outcome-by : Method → Workflow → ℕ → Outcome
+outcome-by M W lent =
+    refuse (ltb lent (W .tasks)) 7 (W .tasks)
+    (refuse (cyclic W) 8 (lowest-in-cycle W)
+    (refuse (ltb (W .budget) (cheapest-total W)) 9 (cheapest-total W)
+    (placed-outcome W (place M W (W .tasks)))))
+
+-- Refusals 1 to 6 are those of reading.
+unfoldable pub outcome-read : List ℕ → Read Request → ℕ → Outcome
+outcome-read s (read next r) lent = outcome-by HBCS (workflow s r) lent
+outcome-read s (stopped number place) lent = refusal number place
+
+unfoldable pub outcome : List ℕ → ℕ → Outcome
+outcome s lent = outcome-read s (read-request s) lent
+
+-- "Either a plan summary (n, length, cost, budget left) or a refusal (number, place)."
+pub data Answer : Type 0 where
+  planned : (n length cost left : ℕ) → Answer
+  refused : (number place : ℕ) → Answer
+
+unfoldable pub answered : Outcome → Answer
+answered (plan W rows) = planned (W .tasks) (length-of rows) (spent rows) (W .budget - spent rows)
+answered (refusal number place) = refused number place
+
+unfoldable pub answer : List ℕ → ℕ → Answer
+answer s lent = answered (outcome s lent)
+
+-- "A plan writes rows 0 to n-1 of the lent slice [..]. Rows from n on keep their content. A refusal changes no row."
+unfoldable pub written : Outcome → List Row → List Row
+written (plan W rows) lent = listed (W .tasks) (row-of rows) ++ drop (W .tasks) lent
+written (refusal number place) lent = lent
+
+unfoldable pub rows-after : List ℕ → List Row → List Row
+rows-after s lent = written (outcome s (length lent)) lent

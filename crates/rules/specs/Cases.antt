@@ -1,0 +1,113 @@
+-- Requests written out record by record, and what is said of each: the forms of `Starred` and `Corners`.
+use Prim.Native.Nat.{ℕ, _/_, _%_}
+use Prim.Native.String.{String}
+use mathlib.Core.Path.{_≡_}
+use mathlib.Core.List.{List, [], _∷_, _++_}
+use lib.ListN.{length, drop}
+use Rattle.label.specs.Length.{stands-in, all, is-label, length-up-to, label-length}
+use Rattle.rules.specs.Folds.{sum, largest, lowest, any, listed}
+use Rattle.rules.specs.Orders.{tie, lower, higher, among, first}
+use Rattle.rules.specs.Fields.{kind-byte, body, size, byte, two-bytes, four-bytes, H-tasks, H-processors, H-budget, D-deadline, P-processor}
+use Rattle.rules.specs.Fields.{P-price, T-task, T-label, W-task, W-processor, W-minutes, E-from, E-to, E-transfer}
+use Rattle.rules.specs.Records.{Read, read, stopped, unless, first-fault, opening, answered, record-at, within, header-at, deadline-at}
+use Rattle.rules.specs.Records.{price-at, task-at, minutes-at, rising, edge-at, end-at}
+use Rattle.rules.specs.Reading.{then, each, deadline-part, prices-part, task-part, tasks-part, edges-part, nothing-after, Request, read-request}
+use Rattle.rules.specs.Workflow.{price-place, task-place, minutes-place, edge-place, workflow}
+use Rattle.rules.specs.Labels.{part-of, label-place, label-part, label-in, label-lookup, label}
+use Rattle.rules.specs.Cycle.{linked, leads-through, back-to-itself, cyclic, lowest-in-cycle}
+use Rattle.rules.specs.Ranks.{cost, lowest-cost, cheapest-total, rank-by, rank-within, R, next-task}
+use Rattle.rules.specs.Start.{arrival, ready, latest-end, start-on}
+use Rattle.rules.specs.Method.{best, may-be-taken, latest-finish, B, F, or-one, score, preferred, HBCS}
+use Rattle.rules.specs.Placing.{Row, row-of, is-placed, busy, ready-for, start-of, finish-of, spent, length-of, RB, RCB, question, row-on, put}
+use Rattle.rules.specs.Placing.{place-next, place}
+use Rattle.rules.specs.Answer.{Answer, refused, refuse, too-late, placed-outcome, outcome-by, outcome-read, outcome, answer, written, rows-after}
+use Rattle.rules.specs.Answer as comes-back
+use Rattle.rules.specs.Text.{bytes, digits, decimal, line, first-line, row-line, lines, row-lines, text}
+
+-- A number below 65,536 in two bytes, and in four.
+abbrev pub in-two : ℕ → List ℕ
+in-two x = x % 256 ∷ x / 256 ∷ []
+
+abbrev pub in-four : ℕ → List ℕ
+in-four x = in-two x ++ in-two 0
+
+abbrev pub H-record : ℕ → ℕ → ℕ → List ℕ
+H-record n m budget = bytes "H" ++ (n ∷ m ∷ []) ++ in-four budget
+
+abbrev pub D-record : ℕ → List ℕ
+D-record deadline = bytes "D" ++ in-four deadline
+
+abbrev pub P-record : ℕ → ℕ → List ℕ
+P-record processor price = bytes "P" ++ (processor ∷ price ∷ [])
+
+-- The label with its spaces.
+abbrev pub T-record : ℕ → String → List ℕ
+T-record task label = bytes "T" ++ (task ∷ []) ++ bytes label
+
+abbrev pub W-record : ℕ → ℕ → ℕ → List ℕ
+W-record task processor minutes = bytes "W" ++ (task ∷ processor ∷ []) ++ in-two minutes
+
+abbrev pub E-record : ℕ → ℕ → ℕ → List ℕ
+E-record from to transfer = bytes "E" ++ (from ∷ to ∷ []) ++ in-two transfer
+
+abbrev pub row : ℕ → ℕ → ℕ → ℕ → Row
+row processor start finish cost = record { processor = processor; start = start; finish = finish; cost = cost }
+
+-- Four rows lent, each with content of its own, which untouched rows keep.
+abbrev pub four-rows : List Row
+four-rows = row 91 1 2 3 ∷ row 92 4 5 6 ∷ row 93 7 8 9 ∷ row 94 10 11 12 ∷ []
+
+-- What comes back: the answer, and the rows after the call.
+pub record Back : Type 0 where
+  pub answer : Answer
+  pub rows : List Row
+
+-- An input and the rows lent with it, and what is due.
+pub record Case : Type 0 where
+  pub input : List ℕ
+  pub lent : List Row
+  pub due : Back
+
+-- Four rows lent, and a refusal: all keep their content.
+abbrev pub refused-case : List ℕ → ℕ → ℕ → Case
+refused-case input number place =
+    record { input = input; lent = four-rows; due = record { answer = refused number place; rows = four-rows } }
+
+-- Four rows lent, and a plan: the rows past its own keep their content.
+abbrev pub planned-case : List ℕ → Answer → List Row → Case
+planned-case input answer rows =
+    record { input = input; lent = four-rows; due = record { answer = answer; rows = rows ++ drop (length rows) four-rows } }
+
+-- What the rules give. To unfold this is to unfold every definition of the rules, so that a case is computed.
+unfoldable pub given : Case → Back
+unfolding
+    stands-in all is-label length-up-to label-length
+    sum largest lowest any listed tie lower higher among first
+    kind-byte body size byte two-bytes four-bytes
+    H-tasks H-processors H-budget D-deadline P-processor P-price T-task T-label W-task W-processor W-minutes E-from E-to E-transfer
+    unless first-fault opening answered record-at within
+    header-at deadline-at price-at task-at minutes-at rising edge-at end-at
+    then each deadline-part prices-part task-part tasks-part edges-part nothing-after read-request
+    price-place task-place minutes-place edge-place workflow
+    part-of label-place label-part label-in label-lookup label
+    linked leads-through back-to-itself cyclic lowest-in-cycle
+    cost lowest-cost cheapest-total rank-by rank-within R next-task
+    arrival ready latest-end start-on
+    best may-be-taken latest-finish B F or-one score preferred HBCS
+    row-of is-placed busy ready-for start-of finish-of spent length-of RB RCB question row-on put place-next place
+    refuse too-late placed-outcome outcome-by outcome-read outcome comes-back.answered answer written rows-after
+    bytes digits decimal line first-line row-line lines row-lines text
+given c = record { answer = answer (c .input) (length (c .lent)); rows = rows-after (c .input) (c .lent) }
+
+-- In every case of a list the rules give what is due.
+abbrev pub All-given : List Case → Type 0
+All-given [] = Unit {0}
+All-given (c ∷ cases) = (given c ≡ c .due) × All-given cases
+
+-- The ranks of a request's tasks; none where it is refused in reading.
+unfoldable pub ranks-in : List ℕ → Read Request → List ℕ
+ranks-in s (read next r) = listed (r .tasks) (R (workflow s r))
+ranks-in s (stopped number place) = []
+
+unfoldable pub ranks : List ℕ → List ℕ
+ranks s = ranks-in s (read-request s)

@@ -1,0 +1,81 @@
+-- Cases beside the starred ones, where slips that look right would change the answer: one list, one theorem.
+use Prim.Native.Nat.{ℕ, _*_}
+use mathlib.Core.Path.{refl}
+use mathlib.Core.List.{List, [], _∷_, _++_}
+use Rattle.rules.specs.Answer.{planned}
+use Rattle.rules.specs.Text.{bytes}
+use Rattle.rules.specs.Cases.{H-record, D-record, P-record, T-record, W-record, E-record, row, Case, refused-case, planned-case, given, All-given}
+
+-- Two tasks whose means on two processors differ by less than a minute, so that only the sums part them: task 1 comes first, at any a.
+near-means : ℕ → List ℕ
+near-means a =
+    H-record 2 2 (a * 10)
+    ++ P-record 0 1
+    ++ P-record 1 1
+    ++ T-record 0 "even    "
+    ++ W-record 0 0 (a * 1)
+    ++ W-record 0 1 (a * 1)
+    ++ T-record 1 "odd     "
+    ++ W-record 1 0 (a * 1)
+    ++ W-record 1 1 (a * 2)
+    ++ bytes "Z"
+
+-- The fastest processor is past the budget, and it is best all the same: so the dearer of the two others may be taken, and wins their tie.
+best-past-budget : List ℕ
+best-past-budget =
+    H-record 1 3 50
+    ++ P-record 0 2
+    ++ P-record 1 1
+    ++ P-record 2 20
+    ++ T-record 0 "one     "
+    ++ W-record 0 0 10
+    ++ W-record 0 1 10
+    ++ W-record 0 2 5
+    ++ bytes "Z"
+
+-- Two processors finish at once: best is the cheaper, and the dearer may not be taken.
+equal-finishes : List ℕ
+equal-finishes =
+    H-record 1 2 50 ++ P-record 0 2 ++ P-record 1 1 ++ T-record 0 "one     " ++ W-record 0 0 10 ++ W-record 0 1 10 ++ bytes "Z"
+
+-- Two tasks of equal R on one processor: the lower number first.
+equal-ranks : List ℕ
+equal-ranks =
+    H-record 2 1 50 ++ P-record 0 1 ++ T-record 0 "one     " ++ W-record 0 0 3 ++ T-record 1 "two     " ++ W-record 1 0 3 ++ bytes "Z"
+
+-- One task on two processors, with a `D` before the first `P`, and another after it or straight after itself.
+deadlines : List ℕ → List ℕ → List ℕ
+deadlines before after =
+    H-record 1 2 9
+    ++ before
+    ++ P-record 0 1
+    ++ after
+    ++ P-record 1 1
+    ++ T-record 0 "one     "
+    ++ W-record 0 0 3
+    ++ W-record 0 1 3
+    ++ bytes "Z"
+
+-- Two tasks on one processor, with these edges.
+with-edges : List ℕ → List ℕ
+with-edges edges =
+    H-record 2 1 50 ++ P-record 0 1 ++ T-record 0 "one     " ++ W-record 0 0 3 ++ T-record 1 "two     " ++ W-record 1 0 3 ++ edges ++ bytes "Z"
+
+pub corners : List Case
+corners =
+    planned-case (near-means 1) (planned 2 1 2 8) (row 1 0 1 1 ∷ row 0 0 1 1 ∷ [])
+    ∷ planned-case (near-means 2) (planned 2 2 4 16) (row 1 0 2 2 ∷ row 0 0 2 2 ∷ [])
+    ∷ planned-case best-past-budget (planned 1 10 20 30) (row 0 0 10 20 ∷ [])
+    ∷ planned-case equal-finishes (planned 1 10 10 40) (row 1 0 10 10 ∷ [])
+    ∷ planned-case equal-ranks (planned 2 6 6 44) (row 0 0 3 3 ∷ row 0 3 6 3 ∷ [])
+    ∷ planned-case (deadlines (D-record 3) []) (planned 1 3 3 6) (row 0 0 3 3 ∷ [])
+    ∷ refused-case (deadlines [] (D-record 3)) 2 10
+    ∷ refused-case (deadlines (D-record 3 ++ D-record 3) []) 2 12
+    ∷ refused-case (with-edges (E-record 0 1 5 ++ E-record 0 0 5)) 3 45
+    ∷ refused-case (with-edges (E-record 1 0 5 ++ E-record 0 9 5)) 3 45
+    ∷ refused-case (with-edges (E-record 0 1 1_001)) 4 40
+    ∷ []
+
+pub in-corners : All-given corners
+unfolding given near-means best-past-budget equal-finishes equal-ranks deadlines with-edges corners
+in-corners = (refl, (refl, (refl, (refl, (refl, (refl, (refl, (refl, (refl, (refl, (refl, tt)))))))))))

@@ -1,0 +1,17 @@
+pub mod Folds
+pub mod Orders
+pub mod Fields
+pub mod Records
+pub mod Reading
+pub mod Workflow
+pub mod Labels
+pub mod Cycle
+pub mod Ranks
+pub mod Start
+pub mod Method
+pub mod Placing
+pub mod Answer
+pub mod Text
+pub mod Cases
+pub mod Starred
+pub mod Corners

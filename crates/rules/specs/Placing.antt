@@ -1,0 +1,108 @@
+-- Placing the tasks one after the other, by any method.
+use Prim.Native.Nat.{ℕ, zero, suc, _+_, _-_, max}
+use mathlib.Core.Bool.{Bool, true, false, cond, _||_}
+use mathlib.Core.List.{List, [], _∷_}
+use lib.Dec.{eqb}
+use Rattle.rules.specs.Folds.{sum}
+use Rattle.rules.specs.Workflow.{Workflow}
+use Rattle.rules.specs.Ranks.{cost, lowest-cost, next-task}
+use Rattle.rules.specs.Start.{ready, Interval, start-on}
+use Rattle.rules.specs.Method.{Question, Choice, take, nothing, Method}
+
+-- "row i for task i: processor, start, finish, cost"
+pub record Row : Type 0 where
+  pub processor : ℕ
+  pub start : ℕ
+  pub finish : ℕ
+  pub cost : ℕ
+
+pub record Placed : Type 0 where
+  pub task : ℕ
+  pub row : Row
+
+abbrev pub no-row : Row
+no-row = record { processor = 0; start = 0; finish = 0; cost = 0 }
+
+-- The row of task i, among the tasks placed so far, the newest first.
+unfoldable pub row-of : List Placed → ℕ → Row
+row-of [] i = no-row
+row-of (p ∷ so-far) i = cond (eqb (p .task) i) (p .row) (row-of so-far i)
+
+unfoldable pub is-placed : List Placed → ℕ → Bool
+is-placed [] i = false
+is-placed (p ∷ so-far) i = eqb (p .task) i || is-placed so-far i
+
+-- What processor j is busy with.
+unfoldable pub busy : List Placed → ℕ → List Interval
+busy [] j = []
+busy (p ∷ so-far) j =
+    let r = p .row in
+    cond (eqb (r .processor) j) (record { begin = r .start; end = r .finish } ∷ busy so-far j) (busy so-far j)
+
+-- Ready, start and finish of task i on processor j.
+unfoldable pub ready-for : Workflow → List Placed → ℕ → ℕ → ℕ
+ready-for W so-far i j = ready W (λ p. row-of so-far p .processor) (λ p. row-of so-far p .finish) i j
+
+unfoldable pub start-of : Workflow → List Placed → ℕ → ℕ → ℕ
+start-of W so-far i j = start-on (busy so-far j) (ready-for W so-far i j) (W .minutes i j)
+
+-- "Finish = start + w."
+unfoldable pub finish-of : Workflow → List Placed → ℕ → ℕ → ℕ
+finish-of W so-far i j = start-of W so-far i j + W .minutes i j
+
+-- The costs already chosen, and the largest finish.
+unfoldable pub spent : List Placed → ℕ
+spent [] = 0
+spent (p ∷ so-far) = spent so-far + p .row .cost
+
+unfoldable pub length-of : List Placed → ℕ
+length-of [] = 0
+length-of (p ∷ so-far) = max (length-of so-far) (p .row .finish)
+
+-- "RB: budget less the costs already chosen." A cost that may be taken is at most RB, so it never falls below 0.
+unfoldable pub RB : Workflow → List Placed → ℕ
+RB W so-far = W .budget - spent so-far
+
+-- "RCB: sum of lowest costs of the tasks still to come, the task in hand not counted."
+unfoldable pub RCB : Workflow → List Placed → ℕ → ℕ
+RCB W so-far i = sum (W .tasks) (λ k. cond (eqb i k || is-placed so-far k) 0 (lowest-cost W k))
+
+-- What the method is asked for task i.
+unfoldable pub question : Workflow → List Placed → ℕ → Question
+question W so-far i =
+    record {
+      processors = W .processors;
+      cost = cost W i;
+      finish = finish-of W so-far i;
+      RB = RB W so-far;
+      RCB = RCB W so-far i;
+    }
+
+unfoldable pub row-on : Workflow → List Placed → ℕ → ℕ → Row
+row-on W so-far i j =
+    record {
+      processor = j;
+      start = start-of W so-far i j;
+      finish = finish-of W so-far i j;
+      cost = cost W i j;
+    }
+
+-- The tasks placed so far, the newest first; or the task that has no processor it may take.
+pub data Placing : Type 0 where
+  so-far : List Placed → Placing
+  stuck : ℕ → Placing
+
+unfoldable pub put : Workflow → List Placed → ℕ → Choice → Placing
+put W before i (take j) = so-far (record { task = i; row = row-on W before i j } ∷ before)
+put W before i nothing = stuck i
+
+unfoldable pub place-next : Method → Workflow → Placing → Placing
+place-next M W (so-far before) =
+    let i = next-task W (is-placed before) in
+    put W before i (M (question W before i))
+place-next M W (stuck i) = stuck i
+
+-- The first k tasks of the placing order.
+unfoldable pub place : Method → Workflow → ℕ → Placing
+place M W zero = so-far []
+place M W (suc k) = place-next M W (place M W k)

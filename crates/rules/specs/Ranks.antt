@@ -1,0 +1,36 @@
+-- Ranks and placing order.
+use Prim.Native.Nat.{ℕ, zero, suc, _+_, _*_}
+use mathlib.Core.Bool.{Bool, true, false, cond, not}
+use lib.Dec.{eqb}
+use Rattle.rules.specs.Folds.{sum, largest, lowest}
+use Rattle.rules.specs.Orders.{tie, higher, among, first}
+use Rattle.rules.specs.Workflow.{Workflow}
+
+-- "cost(i,j) = w(i,j) x price(j)"
+unfoldable pub cost : Workflow → ℕ → ℕ → ℕ
+cost W i j = W .minutes i j * W .price j
+
+-- The lowest cost of task i, and the cheapest total.
+unfoldable pub lowest-cost : Workflow → ℕ → ℕ
+lowest-cost W i = lowest (W .processors) (cost W i)
+
+unfoldable pub cheapest-total : Workflow → ℕ
+cheapest-total W = sum (W .tasks) (lowest-cost W)
+
+-- "R(i) = sum over j of w(i,j), plus the largest over edges i to k of m x c(i,k) + R(k), or plus 0 without successors."
+unfoldable pub rank-by : Workflow → (ℕ → ℕ) → ℕ → ℕ
+rank-by W R i =
+    sum (W .processors) (W .minutes i)
+    + largest (W .edges) (λ e. cond (eqb (W .from e) i) (W .processors * W .transfer e + R (W .to e)) 0)
+
+-- R of a task from which no path has more than `most` tasks. Without a cycle no path has more than n.
+unfoldable pub rank-within : Workflow → ℕ → ℕ → ℕ
+rank-within W zero = λ i. 0
+rank-within W (suc most) = rank-by W (rank-within W most)
+
+unfoldable pub R : Workflow → ℕ → ℕ
+R W = rank-within W (W .tasks)
+
+-- "Tasks are placed by falling R; equal R, lower number first": the next of those not placed.
+unfoldable pub next-task : Workflow → (ℕ → Bool) → ℕ
+next-task W placed = first (W .tasks) (among (λ i. not (placed i)) (higher (R W) tie))

@@ -1,0 +1,125 @@
+-- Reading one record: "Inside a record: kind (a missing byte gives 1), whole body, the 513th edge, 3, 4 in field order, 5."
+use Prim.Native.Nat.{ℕ, suc, zero, _+_}
+use mathlib.Core.Bool.{Bool, true, false, not, _&&_, _||_}
+use mathlib.Core.List.{List, [], _∷_, _++_}
+use lib.ListN.{length}
+use lib.Dec.{leb, ltb, eqb}
+use Rattle.label.specs.Length.{label-length}
+use Rattle.rules.specs.Fields.{Kind, H, D, P, T, W, E, Z, kind-byte, size, byte, H-tasks, H-processors, H-budget, D-deadline, P-processor}
+use Rattle.rules.specs.Fields.{P-price, T-task, T-label, W-task, W-processor, W-minutes, E-from, E-to, E-transfer}
+
+-- A record with its fields.
+pub data Record : Type 0 where
+  header : (tasks processors budget : ℕ) → Record
+  deadline : (deadline : ℕ) → Record
+  price : (processor price : ℕ) → Record
+  task : (task label : ℕ) → Record
+  minutes : (task processor minutes : ℕ) → Record
+  edge : (from to transfer : ℕ) → Record
+  end : Record
+
+-- "Each record read is either a record with its fields or a refusal with its place": what was read with the place past it, or number and place.
+pub data Read (A : Type 0) : Type 0 where
+  read : (next : ℕ) → A → Read A
+  stopped : (number place : ℕ) → Read A
+
+-- A check: 0 where the test holds, else the number of the refusal.
+unfoldable pub unless : Bool → ℕ → ℕ
+unless true number = 0
+unless false number = number
+
+-- The first check that fails; 0 where none does.
+unfoldable pub first-fault : List ℕ → ℕ
+first-fault [] = 0
+first-fault (zero ∷ checks) = first-fault checks
+first-fault (suc number ∷ checks) = suc number
+
+-- "kind (a missing byte gives 1), whole body"; what a kind checks of its own comes after.
+unfoldable pub opening : List ℕ → ℕ → Kind → List ℕ
+opening s at k =
+    unless (ltb at (length s)) 1
+    ∷ unless (eqb (byte s at) (kind-byte k)) 2
+    ∷ unless (leb (at + size k) (length s)) 1
+    ∷ []
+
+unfoldable pub answered : ℕ → ℕ → ℕ → Record → Read Record
+answered zero at next r = read next r
+answered (suc number) at next r = stopped (suc number) at
+
+-- A record of kind k at `at`, where the checks find nothing; else the first fault, at the record's offset. Where not even a kind
+-- byte is there, `at` is the input's length: reading comes to `at` past whole records only.
+unfoldable pub record-at : List ℕ → ℕ → Kind → List ℕ → Record → Read Record
+record-at s at k checks r = answered (first-fault (opening s at k ++ checks)) at (at + size k) r
+
+unfoldable pub within : ℕ → ℕ → ℕ → Bool
+within low x high = leb low x && leb x high
+
+-- "n 1..64, m 1..16, budget 0..20,000,000"
+unfoldable pub header-at : List ℕ → ℕ → Read Record
+header-at s at =
+    let n = H-tasks s at in
+    let m = H-processors s at in
+    let budget = H-budget s at in
+    record-at s at H
+    (unless (within 1 n 64) 4 ∷ unless (within 1 m 16) 4 ∷ unless (within 0 budget 20_000_000) 4 ∷ [])
+    (header n m budget)
+
+-- "deadline 1..200,000"
+unfoldable pub deadline-at : List ℕ → ℕ → Read Record
+deadline-at s at =
+    let d = D-deadline s at in
+    record-at s at D (unless (within 1 d 200_000) 4 ∷ []) (deadline d)
+
+-- The price of processor j: "price 0..100".
+unfoldable pub price-at : List ℕ → ℕ → ℕ → Read Record
+price-at s at j =
+    let processor = P-processor s at in
+    let p = P-price s at in
+    record-at s at P (unless (eqb processor j) 3 ∷ unless (within 0 p 100) 4 ∷ []) (price processor p)
+
+-- Task i: its eight bytes are a label.
+unfoldable pub task-at : List ℕ → ℕ → ℕ → Read Record
+task-at s at i =
+    let number = T-task s at in
+    let label = T-label at in
+    record-at s at T (unless (eqb number i) 3 ∷ unless (leb 1 (label-length s label)) 5 ∷ []) (task number label)
+
+-- The minutes of task i on processor j: "minutes 1..2,000".
+unfoldable pub minutes-at : List ℕ → ℕ → ℕ → ℕ → Read Record
+minutes-at s at i j =
+    let number = W-task s at in
+    let processor = W-processor s at in
+    let w = W-minutes s at in
+    record-at s at W
+    (unless (eqb number i) 3 ∷ unless (eqb processor j) 3 ∷ unless (within 1 w 2_000) 4 ∷ [])
+    (minutes number processor w)
+
+-- The edges read before this one: how many, and the last one's ends. The first edge has none before it.
+pub record Edges : Type 0 where
+  pub count : ℕ
+  pub from : ℕ
+  pub to : ℕ
+
+-- "each pair (from, to) greater than the one before, by from first and then to"
+unfoldable pub rising : Edges → ℕ → ℕ → Bool
+rising before from to =
+    eqb (before .count) 0
+    || (ltb (before .from) from || (eqb (before .from) from && ltb (before .to) to))
+
+-- "transfer 0..1,000, edge ends below n and unequal, at most 512 edges": "the 513th edge, 3, 4 in field order"
+unfoldable pub edge-at : List ℕ → ℕ → ℕ → Edges → Read Record
+edge-at s at n before =
+    let from = E-from s at in
+    let to = E-to s at in
+    let transfer = E-transfer s at in
+    record-at s at E
+    (unless (ltb (before .count) 512) 4
+    ∷ unless (rising before from to) 3
+    ∷ unless (ltb from n) 4
+    ∷ unless (ltb to n && not (eqb from to)) 4
+    ∷ unless (within 0 transfer 1_000) 4
+    ∷ [])
+    (edge from to transfer)
+
+unfoldable pub end-at : List ℕ → ℕ → Read Record
+end-at s at = record-at s at Z [] end
