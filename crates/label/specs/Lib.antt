@@ -1,4 +1,5 @@
 pub mod Label
 pub mod Length
+pub mod ListLaws
 pub mod Laws
 pub mod Parts
