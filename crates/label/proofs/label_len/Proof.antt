@@ -49,7 +49,7 @@ returns-3 c =
       label = λ h. record {
         whole = omega arith;
         one-or-more = h;
-        eight-or-fewer = run .eight-or-fewer;
+        eight-or-fewer = omega arith;
         of-the-list = run .of-the-list;
         then-spaces = λ k from below. c .before .spaces .ensures .passes (c .if3 .taken) (at + k) (omega arith) (omega arith);
       };

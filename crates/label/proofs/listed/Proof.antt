@@ -36,7 +36,7 @@ array-read-if1 c = omega arith
 returns : tie.Need-returns Inv-loop μ-loop
 returns c =
     record {
-      passes = λ e. Memᴰ·cast (sym (c .if1 .taken)) (member-at the-list (c .before .before .loop .i) (c .before .loop-test .taken));
+      passes = λ e. Memᴰ·cast (sym (c .if1 .taken)) (member-at the-list (c .before .before .loop .i) (omega arith));
       fails = λ e. absurd (true≢false e);
     }
 
