@@ -11,14 +11,13 @@ pub fn listed(b: u8) -> bool
     ensures { λ r. ⌜ ListedTold b r ⌝ }
 {
     let list = LIST;
+    let mut found = false;
     let mut i = 0;
     while i < 64 {
-        if list[i] == b {
-            return true;
-        }
+        found = found | (list[i] == b);
         i += 1;
     }
-    false
+    found
 }
 
 // How many of the eight bytes at `at` stand in the list before the first that does not.

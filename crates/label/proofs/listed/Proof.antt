@@ -1,14 +1,15 @@
--- `label::listed` meets its contract: none of the bytes of the list before the `i`-th is `b`, so `b` stands at `i` or further on, or nowhere.
+-- `label::listed` meets its contract: `found` tells whether `b` is one of the bytes of the list before the `i`-th.
 use mathlib.Core.Path.{_≡_, refl, sym}
-use Prim.Native.Nat.{ℕ, zero, suc, _≤_, _<_, _-_, zero-le, suc-le-suc}
+use Prim.Native.Nat.{ℕ, zero, suc, _+_, _≤_, _<_, _-_, zero-le, suc-le-suc}
 use native.Mathlib.Nat.{le-of-suc-le-suc}
 use native.Mathlib.Omega.{arith}
-use mathlib.Core.Bool.{true≢false, false≢true}
+use mathlib.Core.Bool.{Bool, true, false, _||_, true≢false, false≢true}
 use mathlib.Core.List.{List, [], _∷_, List·Memᴰ, Memᴰ·cast}
 use lib.ListN.{length, getD}
+use lib.Dec.{eqb}
+use borrow.Author.Tests.{eqb-true, eqb-false}
 use borrow.Author.Count.{below-more}
-use borrow.Author.Needs.{needs}
-use Rattle.label.specs.Label.{the-list}
+use Rattle.label.specs.Label.{the-list, Listed}
 use Rattle.label.proofs.listed.Statement.{statement}
 use Rattle.label.proofs.listed.Tie as tie
 
@@ -21,24 +22,40 @@ place-of : {b : ℕ} {xs : List ℕ} → List·Memᴰ b xs → (i : ℕ) × (i <
 place-of (List·Memᴰ.List·Memᴰ·head e) = (0, suc-le-suc zero-le, sym e)
 place-of (List·Memᴰ.List·Memᴰ·tail m) = let (i, h, e) = place-of m in (suc i, suc-le-suc h, e)
 
+-- t tells whether b is one of the first i bytes of the list.
+record Told (b i : ℕ) (t : Bool) : Type 0 where
+  within : i ≤ 64
+  passes : t ≡ true → Listed b
+  fails : t ≡ false → (k : ℕ) → k < i → getD the-list k 0 ≡ b → ⊥
+
+told-more : {b : ℕ} (i : ℕ) (t u : Bool) → i < 64 → eqb (getD the-list i 0) b ≡ u → Told b i t → Told b (i + 1) (t || u)
+told-more i true u h e told =
+    record { within = omega arith; passes = told .passes; fails = λ none. absurd (true≢false none) }
+told-more {b} i false true h e told =
+    record {
+      within = omega arith;
+      passes = λ _. Memᴰ·cast (sym (eqb-true _ b e)) (member-at the-list i (omega arith));
+      fails = λ none. absurd (true≢false none);
+    }
+told-more {b} i false false h e told =
+    record {
+      within = omega arith;
+      passes = told .passes;
+      fails = λ none. below-more _ _ (told .fails none) (eqb-false _ b e);
+    }
+
 abbrev Inv-loop : tie.InvT-loop
-Inv-loop b list i₀ i = (i ≤ 64) × ((k : ℕ) → k < i → getD the-list k 0 ≡ b → ⊥)
+Inv-loop b list found₀ i₀ found i = Told b i found
 
 abbrev μ-loop : tie.MeasureT-loop
-μ-loop b list i₀ i = 64 - i
+μ-loop b list found₀ i₀ found i = 64 - i
 
 loop-holds : tie.Need-loop-holds Inv-loop μ-loop
-loop-holds c = search needs
+loop-holds c =
+    record { within = omega arith; passes = λ e. absurd (false≢true e); fails = λ none k h. absurd (omega arith) }
 
-array-read-if1 : tie.Need-array-read-if1 Inv-loop μ-loop
-array-read-if1 c = omega arith
-
-returns : tie.Need-returns Inv-loop μ-loop
-returns c =
-    record {
-      passes = λ e. Memᴰ·cast (sym (c .if1 .taken)) (member-at the-list (c .before .before .loop .i) (omega arith));
-      fails = λ e. absurd (true≢false e);
-    }
+array-read-found : tie.Need-array-read-found Inv-loop μ-loop
+array-read-found c = omega arith
 
 add-i : tie.Need-add-i Inv-loop μ-loop
 add-i c = omega arith
@@ -47,25 +64,17 @@ loop-less : tie.Need-loop-less Inv-loop μ-loop
 loop-less c = omega arith
 
 loop-again : tie.Need-loop-again Inv-loop μ-loop
-loop-again c = (omega arith, below-more _ _ (c .before .before .loop .inv .1) (c .if1 .left))
+loop-again c = told-more (c .before .loop .i) (c .before .loop .found) _ (c .loop-test .taken) refl (c .before .loop .inv)
 
-returns-2 : tie.Need-returns-2 Inv-loop μ-loop
-returns-2 c =
+returns : tie.Need-returns Inv-loop μ-loop
+returns c =
+    let told = c .before .loop .inv in
     record {
-      passes = λ e. absurd (false≢true e);
-      fails = λ e m. let (i, h, same) = place-of m in c .before .loop .inv .1 i (omega arith) same;
+      passes = told .passes;
+      fails = λ none m. let (i, h, same) = place-of m in told .fails none i (omega arith) same;
     }
 
 pub listed-spec : {M : Type 1} → statement M
 listed-spec =
     tie.close
-    (tie.spec
-    Inv-loop
-    μ-loop
-    loop-holds
-    array-read-if1
-    returns
-    add-i
-    loop-less
-    loop-again
-    returns-2)
+    (tie.spec Inv-loop μ-loop loop-holds array-read-found add-i loop-less loop-again returns)
