@@ -1,9 +1,7 @@
 // The sixty-four bytes that a label may hold, and the check of a label field. Final: nobody edits this crate.
-ghost use mathlib.Core.Path.{_≡_};
-ghost use Prim.Native.Nat.{ℕ, _+_, _<_, _≤_};
-ghost use mathlib.Core.Bool.{Bool, true, false};
-ghost use lib.ListN.{length, getD};
-ghost use Rattle.label.specs.Label.{Listed, ListedTold, LabelLength, LabelTold};
+ghost use Prim.Native.Nat.{_+_, _≤_};
+ghost use lib.ListN.{length};
+ghost use Rattle.label.specs.Label.{ListedTold, LabelLength, LabelTold};
 ghost use Rattle.label.specs.Parts.{Run, SpacesTold};
 
 const LIST: [u8; 64] = *b"ABCDEFGHIJKLMNOPQRSTUVWXYZabcdefghijklmnopqrstuvwxyz0123456789-_";
@@ -13,14 +11,13 @@ pub fn listed(b: u8) -> bool
     ensures { λ r. ⌜ ListedTold b r ⌝ }
 {
     let list = LIST;
+    let mut found = false;
     let mut i = 0;
     while i < 64 {
-        if list[i] == b {
-            return true;
-        }
+        found = found | (list[i] == b);
         i += 1;
     }
-    false
+    found
 }
 
 // How many of the eight bytes at `at` stand in the list before the first that does not.
