@@ -6,7 +6,8 @@ ghost use Rattle.label.specs.Parts.{Run, SpacesTold};
 
 const LIST: [u8; 64] = *b"ABCDEFGHIJKLMNOPQRSTUVWXYZabcdefghijklmnopqrstuvwxyz0123456789-_";
 
-// Whether a byte stands in the list.
+// Whether a byte stands in the list. The list is searched to its end whatever is found: so written it compiles to range tests, and
+// with an early return to a jump for each byte.
 pub fn listed(b: u8) -> bool
     ensures { λ r. ⌜ ListedTold b r ⌝ }
 {

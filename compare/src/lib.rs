@@ -1,0 +1,54 @@
+//! An independent program for document 01, written from that document alone
+//! and used to compare answers with. It keeps everything in plain tables:
+//! [`read`] decodes a request, [`schedule`] plans it, [`text`] prints it.
+
+pub mod build;
+mod plan;
+mod print;
+mod request;
+
+pub use plan::{ranks, schedule};
+pub use print::text;
+pub use request::{read, Edge, Refusal, Workflow};
+
+/// One plan row; row i speaks of task i.
+#[derive(Clone, Copy, Debug, Default, PartialEq, Eq)]
+pub struct Row {
+    pub processor: u64,
+    pub start: u64,
+    pub finish: u64,
+    pub cost: u64,
+}
+
+/// "Either a plan summary (n, length, cost, budget left) or a refusal (number, place)."
+#[derive(Clone, Copy, Debug, PartialEq, Eq)]
+pub enum Answer {
+    Planned { n: u64, length: u64, cost: u64, left: u64 },
+    Refused { number: u64, place: u64 },
+}
+
+impl From<Refusal> for Answer {
+    fn from(Refusal { number, place }: Refusal) -> Answer {
+        Answer::Refused { number, place }
+    }
+}
+
+/// Reads and plans a request. A plan writes rows 0 to n-1 and keeps the rest;
+/// a refusal changes no row.
+pub fn plan(request: &[u8], rows: &mut [Row]) -> Answer {
+    match read(request) {
+        Ok(workflow) => schedule(&workflow, rows),
+        Err(refusal) => refusal.into(),
+    }
+}
+
+/// The label of a task without its spaces, as a part of the request itself;
+/// the empty part at the start "for a request refused in reading (1 to 6), or
+/// a task not below n".
+pub fn label(request: &[u8], task: usize) -> &[u8] {
+    let workflow = read(request).ok();
+    match workflow.as_ref().and_then(|w| w.labels.get(task)) {
+        Some(place) => &request[place.clone()],
+        None => &request[..0],
+    }
+}

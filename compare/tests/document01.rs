@@ -1,0 +1,581 @@
+//! The cases of document 01, and both edges of each of its ranges. Offsets in
+//! S(28): H 0, P 7 10, T W W 13 23 28, 33 43 48, 53 63 68, E 73 78, Z 83, end 84.
+
+use std::io::Write;
+use std::process::{Command, Stdio};
+
+use compare::build::{d, e, h, p, sample, t, w, z, Draft};
+use compare::{label, plan, ranks, read, text, Answer, Refusal, Row};
+
+const H: usize = 7;
+const D: usize = 5;
+const P: usize = 3;
+const T: usize = 10;
+const W: usize = 5;
+const E: usize = 5;
+
+/// A row content that no plan writes.
+const KEPT: Row = Row { processor: 91, start: 92, finish: 93, cost: 94 };
+
+fn planned(n: u64, length: u64, cost: u64, left: u64) -> Answer {
+    Answer::Planned { n, length, cost, left }
+}
+
+fn refused(number: u64, place: usize) -> Answer {
+    Answer::Refused { number, place: place as u64 }
+}
+
+/// The answer with `lent` rows lent, and those rows: (processor, start,
+/// finish, cost). Every call checks that rows from n on are kept, and on a
+/// refusal all of them.
+fn answer_with(lent: usize, request: &[u8]) -> (Answer, Vec<(u64, u64, u64, u64)>) {
+    let mut rows = vec![KEPT; lent];
+    let answer = plan(request, &mut rows);
+    let n = match answer {
+        Answer::Planned { n, .. } => n as usize,
+        Answer::Refused { .. } => 0,
+    };
+    assert!(rows[n..].iter().all(|row| *row == KEPT));
+    assert!(rows[..n].iter().all(|row| *row != KEPT));
+    (answer, rows[..n].iter().map(|r| (r.processor, r.start, r.finish, r.cost)).collect())
+}
+
+fn answer(request: &[u8]) -> Answer {
+    answer_with(70, request).0
+}
+
+/// Passes reading, by `read` and `plan` alike.
+fn passes(request: &[u8]) {
+    assert!(read(request).is_ok());
+    assert!(!matches!(answer(request), Answer::Refused { number: 1..=6, .. }));
+}
+
+/// Refused in reading, by `read`, `plan`, `text` and `label` alike.
+fn refuses(request: &[u8], number: u64, place: usize) {
+    assert_eq!(read(request), Err(Refusal { number, place: place as u64 }));
+    assert_eq!(answer(request), refused(number, place));
+    assert_eq!(text(request), format!("no {number} {place}\n").into_bytes());
+    let part = label(request, 0);
+    assert!(part.is_empty() && part.as_ptr() == request.as_ptr());
+}
+
+/// Passes reading or is refused with this number and place.
+fn passes_only_if(good: bool, request: &[u8], number: u64, place: usize) {
+    if good {
+        passes(request);
+    } else {
+        refuses(request, number, place);
+    }
+}
+
+/// S(28) with its record number k changed to another one. S(28) has the
+/// records H, P P, T W W, T W W, T W W, E E, Z, numbered from 0.
+fn with_record(k: usize, record: Vec<u8>) -> Vec<u8> {
+    let mut records = sample(28).records();
+    records[k] = record;
+    records.concat()
+}
+
+/// n tasks, m processors, all minutes and prices 1, no edge; good for 1..=64, 1..=16.
+fn even(n: usize, m: usize) -> Draft {
+    Draft::new(1_000, &vec![1; m], &vec![&vec![1; m][..]; n], &[])
+}
+
+/// The first `count` pairs (i, k) with i < k < 64 in rising order, transfer 0.
+fn forward_edges(count: usize) -> Vec<(u8, u8, u16)> {
+    (0..64).flat_map(|i| (i + 1..64).map(move |k| (i, k, 0))).take(count).collect()
+}
+
+/// Every count, field and label as large as it may be.
+fn largest() -> Draft {
+    Draft {
+        deadline: Some(200_000),
+        tasks: (0..64).map(|i| (format!("label-{i:02}"), vec![2_000; 16])).collect(),
+        edges: forward_edges(512).iter().map(|&(i, k, _)| (i, k, 1_000)).collect(),
+        ..Draft::new(20_000_000, &[100; 16], &[], &[])
+    }
+}
+
+// ---- The sample ----
+
+#[test]
+fn s28_prints_the_sample() {
+    let request = sample(28).bytes();
+    assert_eq!(request.len(), 84);
+    assert_eq!(request.len(), H + 2 * P + 3 * (T + 2 * W) + 2 * E + 1);
+    assert_eq!(ranks(&read(&request).unwrap()), Some(vec![30, 12, 8]));
+    let expected = "plan 3 14 26 2\nprep 1 0 4 12\nleft 0 6 14 8\nright 1 4 6 6\n";
+    assert_eq!(text(&request), expected.as_bytes());
+    let rows = vec![(1, 0, 4, 12), (0, 6, 14, 8), (1, 4, 6, 6)];
+    assert_eq!(answer_with(3, &request), (planned(3, 14, 26, 2), rows));
+}
+
+#[test]
+fn s28_byte_for_byte() {
+    let expected = b"H\x03\x02\x1c\0\0\0P\0\x01P\x01\x03\
+        T\0prep    W\0\0\x0a\0W\0\x01\x04\0T\x01left    W\x01\0\x08\0W\x01\x01\x04\0\
+        T\x02right   W\x02\0\x06\0W\x02\x01\x02\0E\0\x01\x02\0E\0\x02\x03\0Z";
+    assert_eq!(sample(28).bytes(), expected);
+}
+
+#[test]
+fn s24_spends_all() {
+    let rows = vec![(0, 0, 10, 10), (0, 10, 18, 8), (1, 13, 15, 6)];
+    assert_eq!(answer_with(3, &sample(24).bytes()), (planned(3, 18, 24, 0), rows));
+}
+
+#[test]
+fn s23_is_too_dear() {
+    assert_eq!(answer(&sample(23).bytes()), refused(9, 24));
+    assert_eq!(text(&sample(23).bytes()), b"no 9 24\n");
+}
+
+#[test]
+fn s100_takes_the_fast_processor() {
+    let rows = vec![(1, 0, 4, 12), (1, 4, 8, 12), (1, 8, 10, 6)];
+    assert_eq!(answer_with(3, &sample(100).bytes()), (planned(3, 10, 30, 70), rows));
+}
+
+#[test]
+fn s28_multiplied() {
+    let draft = sample(28).times(3, 2);
+    assert_eq!(draft.budget, 168);
+    let rows = vec![(1, 0, 12, 72), (0, 18, 42, 48), (1, 12, 18, 36)];
+    assert_eq!(answer_with(3, &draft.bytes()), (planned(3, 42, 156, 12), rows));
+}
+
+#[test]
+fn one_task_for_nothing() {
+    let request = Draft::new(0, &[0], &[&[1]], &[]).bytes();
+    assert_eq!(answer_with(1, &request), (planned(1, 1, 0, 0), vec![(0, 0, 1, 0)]));
+    assert_eq!(text(&request), b"plan 1 1 0 0\nt0 0 0 1 0\n");
+}
+
+// ---- Refusals of the sample ----
+
+#[test]
+fn sample_cut_or_damaged() {
+    let good = sample(28).bytes();
+    refuses(b"", 1, 0);
+    refuses(&good[..83], 1, 83);
+    refuses(&good[..9], 1, 7);
+    refuses(&[&good[..], b"Z"].concat(), 6, 84);
+    refuses(&[&good[..], b"\0\0\0"].concat(), 6, 84);
+    refuses(&[b"P", &good[1..]].concat(), 2, 0);
+    refuses(&with_record(3, t(0, "pr;p")), 5, 13);
+}
+
+#[test]
+fn sample_with_a_cycle() {
+    let mut draft = sample(28);
+    draft.edges.push((1, 0, 0));
+    assert_eq!(answer(&draft.bytes()), refused(8, 0));
+    assert_eq!(ranks(&read(&draft.bytes()).unwrap()), None);
+}
+
+#[test]
+fn sample_with_too_few_rows() {
+    let request = sample(28).bytes();
+    assert_eq!(answer_with(2, &request).0, refused(7, 3));
+    assert_eq!(answer_with(0, &request).0, refused(7, 3));
+    assert_eq!(answer_with(3, &request).0, planned(3, 14, 26, 2));
+}
+
+#[test]
+fn sample_with_a_deadline() {
+    let deadline = |minutes| Draft { deadline: Some(minutes), ..sample(28) }.bytes();
+    assert_eq!(answer(&deadline(13)), refused(11, 14));
+    assert_eq!(answer(&deadline(14)), planned(3, 14, 26, 2));
+    assert_eq!(text(&deadline(14)), text(&sample(28).bytes()));
+}
+
+// ---- Ranges ----
+
+#[test]
+fn tasks_1_to_64() {
+    for (n, good) in [(0, false), (1, true), (64, true), (65, false), (255, false)] {
+        let request = even(n, 2).bytes();
+        passes_only_if(good, &request, 4, 0);
+    }
+}
+
+#[test]
+fn processors_1_to_16() {
+    for (m, good) in [(0, false), (1, true), (16, true), (17, false), (255, false)] {
+        let request = even(2, m.max(1)).bytes();
+        let request = [&[b'H', 2, m as u8], &request[3..]].concat();
+        passes_only_if(good, &request, 4, 0);
+    }
+}
+
+#[test]
+fn budget_up_to_20_000_000() {
+    passes(&sample(0).bytes());
+    passes(&sample(20_000_000).bytes());
+    refuses(&sample(20_000_001).bytes(), 4, 0);
+    refuses(&sample(u32::MAX).bytes(), 4, 0);
+    // All four bytes count, the lowest first.
+    assert_eq!(answer(&sample(0x01_02_03_04).bytes()), planned(3, 10, 30, 0x01_02_03_04 - 30));
+}
+
+#[test]
+fn deadline_1_to_200_000() {
+    let deadline = |minutes| Draft { deadline: Some(minutes), ..sample(28) }.bytes();
+    refuses(&deadline(0), 4, H);
+    passes(&deadline(1));
+    passes(&deadline(200_000));
+    refuses(&deadline(200_001), 4, H);
+    refuses(&deadline(u32::MAX), 4, H);
+}
+
+#[test]
+fn price_0_to_100() {
+    passes(&with_record(1, p(0, 0)));
+    passes(&with_record(1, p(0, 100)));
+    refuses(&with_record(1, p(0, 101)), 4, 7);
+    refuses(&with_record(2, p(1, 255)), 4, 10);
+}
+
+#[test]
+fn minutes_1_to_2_000() {
+    refuses(&with_record(4, w(0, 0, 0)), 4, 23);
+    passes(&with_record(4, w(0, 0, 1)));
+    passes(&with_record(4, w(0, 0, 2_000)));
+    refuses(&with_record(4, w(0, 0, 2_001)), 4, 23);
+    refuses(&with_record(11, w(2, 1, u16::MAX)), 4, 68);
+}
+
+#[test]
+fn transfer_0_to_1_000() {
+    passes(&with_record(12, e(0, 1, 0)));
+    passes(&with_record(12, e(0, 1, 1_000)));
+    refuses(&with_record(12, e(0, 1, 1_001)), 4, 73);
+    refuses(&with_record(13, e(0, 2, u16::MAX)), 4, 78);
+}
+
+#[test]
+fn edge_ends_below_n_and_unequal() {
+    passes(&with_record(13, e(1, 2, 0)));
+    passes(&with_record(13, e(2, 1, 0)));
+    refuses(&with_record(13, e(0, 3, 0)), 4, 78);
+    refuses(&with_record(13, e(3, 0, 0)), 4, 78);
+    refuses(&with_record(13, e(1, 1, 0)), 4, 78);
+    refuses(&with_record(12, e(0, 0, 0)), 4, 73);
+    refuses(&with_record(13, e(255, 254, 0)), 4, 78);
+}
+
+#[test]
+fn edges_up_to_512() {
+    let before = H + 2 * P + 64 * (T + 2 * W) + 512 * E;
+    let mut draft = even(64, 2);
+    draft.edges = forward_edges(512);
+    passes(&draft.bytes());
+    assert!(matches!(answer(&draft.bytes()), Answer::Planned { .. }));
+
+    draft.edges = forward_edges(513);
+    refuses(&draft.bytes(), 4, before);
+    // A 513th edge that is out of order as well is 4 before it is 3.
+    draft.edges[512] = (0, 1, 0);
+    refuses(&draft.bytes(), 4, before);
+    // Its kind and its whole body come first.
+    refuses(&draft.bytes()[..before + 4], 1, before);
+    let mut other_kind = draft.bytes();
+    other_kind[before] = b'W';
+    refuses(&other_kind, 2, before);
+}
+
+#[test]
+fn largest_good_request() {
+    let request = largest().bytes();
+    assert_eq!(request.len(), H + D + 16 * P + 64 * (T + 16 * W) + 512 * E + 1);
+    assert_eq!(request.len(), 8_381);
+    passes(&request);
+    // Every task costs 200,000 everywhere.
+    let (answer, rows) = answer_with(64, &request);
+    let Answer::Planned { length, .. } = answer else { panic!("{answer:?}") };
+    assert_eq!(answer, planned(64, length, 12_800_000, 7_200_000));
+    assert_eq!(rows.len(), 64);
+    refuses(&[&request[..], b"E"].concat(), 6, 8_381);
+}
+
+// ---- Labels ----
+
+#[test]
+fn every_byte_in_a_label() {
+    for byte in 0..=255 {
+        let listed = byte_in_list(byte);
+        let first = with_record(3, t(0, [byte, b'a']));
+        let inside = with_record(6, t(1, [b'a', byte, b'b']));
+        let last = with_record(9, t(2, [b'a', b'a', b'a', b'a', b'a', b'a', b'a', byte]));
+        passes_only_if(listed, &first, 5, 13);
+        passes_only_if(listed, &inside, 5, 33);
+        passes_only_if(listed || byte == b' ', &last, 5, 53);
+    }
+    assert_eq!((0..=255).filter(|&byte| byte_in_list(byte)).count(), 64);
+}
+
+fn byte_in_list(byte: u8) -> bool {
+    matches!(byte, b'A'..=b'Z' | b'a'..=b'z' | b'0'..=b'9' | b'-' | b'_')
+}
+
+#[test]
+fn label_lengths() {
+    passes(&with_record(3, t(0, "x")));
+    passes(&with_record(3, t(0, "abcdefgh")));
+    passes(&with_record(3, t(0, "left"))); // as task 1 has it
+    refuses(&with_record(3, t(0, "")), 5, 13);
+    refuses(&with_record(3, t(0, " x")), 5, 13);
+    refuses(&with_record(3, t(0, "a b")), 5, 13);
+    refuses(&with_record(3, t(0, "a      b")), 5, 13);
+    refuses(&with_record(3, t(0, "prep\0\0\0\0")), 5, 13);
+}
+
+#[test]
+fn label_lookup() {
+    let request = with_record(6, t(1, "abcdefgh"));
+    for (task, expected, offset) in [(0, "prep", 15), (1, "abcdefgh", 35), (2, "right", 55)] {
+        let part = label(&request, task);
+        assert_eq!(part, expected.as_bytes());
+        assert_eq!(part.as_ptr(), request[offset..].as_ptr());
+    }
+    for task in [3, 64, 255, 256, usize::MAX] {
+        let part = label(&request, task);
+        assert!(part.is_empty() && part.as_ptr() == request.as_ptr());
+    }
+}
+
+#[test]
+fn label_lookup_asks_for_reading_only() {
+    let mut cyclic = sample(0);
+    cyclic.edges.push((1, 0, 0));
+    assert_eq!(answer(&cyclic.bytes()), refused(8, 0));
+    assert_eq!(label(&cyclic.bytes(), 2), b"right");
+    assert_eq!(label(&sample(0).bytes(), 0), b"prep");
+}
+
+// ---- Kinds, numbers and order of records ----
+
+#[test]
+fn only_the_kind_due() {
+    // Each record in turn gets each kind byte; E and Z are due alike at 73, 78
+    // and 83, and D beside P at 7.
+    let good = sample(28).bytes();
+    let offsets = [0, 7, 10, 13, 23, 28, 33, 43, 48, 53, 63, 68, 73, 78, 83];
+    for at in offsets {
+        for kind in 0..=255 {
+            let due = match at {
+                0 => kind == b'H',
+                7 => kind == b'P' || kind == b'D',
+                73 | 78 | 83 => kind == b'E' || kind == b'Z',
+                _ => kind == good[at],
+            };
+            let mut request = good.clone();
+            request[at] = kind;
+            if !due {
+                refuses(&request, 2, at);
+            }
+        }
+    }
+    // The other kind due, where it then leads.
+    let changed = |at: usize, kind: u8| {
+        let mut request = good.clone();
+        request[at] = kind;
+        request
+    };
+    refuses(&changed(7, b'D'), 4, 7); // the deadline's bytes are 0, 1, `P`, 1
+    refuses(&changed(73, b'Z'), 6, 74);
+    refuses(&changed(83, b'E'), 1, 83);
+}
+
+#[test]
+fn at_most_one_deadline_and_before_the_prices() {
+    let mut records = Draft { deadline: Some(14), ..sample(28) }.records();
+    passes(&records.concat());
+    records.insert(2, d(14));
+    refuses(&records.concat(), 2, H + D);
+    records.swap(1, 3); // now P, D, D
+    records.remove(2);
+    refuses(&records.concat(), 2, H + P);
+}
+
+#[test]
+fn numbers_due() {
+    refuses(&with_record(1, p(1, 1)), 3, 7);
+    refuses(&with_record(2, p(0, 3)), 3, 10);
+    refuses(&with_record(2, p(2, 3)), 3, 10);
+    refuses(&with_record(3, t(1, "prep")), 3, 13);
+    refuses(&with_record(9, t(1, "right")), 3, 53);
+    refuses(&with_record(4, w(1, 0, 10)), 3, 23);
+    refuses(&with_record(7, w(0, 0, 10)), 3, 43);
+    refuses(&with_record(4, w(0, 1, 10)), 3, 23);
+    refuses(&with_record(5, w(0, 0, 4)), 3, 28);
+    refuses(&with_record(5, w(0, 2, 4)), 3, 28);
+}
+
+#[test]
+fn edges_rise_by_from_and_then_to() {
+    refuses(&with_record(13, e(0, 1, 3)), 3, 78); // equal to the one before
+    refuses(&with_record(12, e(1, 0, 2)), 3, 78); // from falls, to rises
+    refuses(&with_record(12, e(0, 2, 2)), 3, 78); // equal again
+    let edges = |edges: &[(u8, u8, u16)]| Draft { edges: edges.to_vec(), ..sample(28) }.bytes();
+    refuses(&edges(&[(0, 2, 0), (0, 1, 0)]), 3, 78); // same from, to falls
+    refuses(&edges(&[(0, 1, 0), (1, 2, 0), (0, 2, 0)]), 3, 83);
+    passes(&edges(&[(0, 2, 0), (1, 0, 0)])); // from rises, to falls
+    passes(&edges(&[(2, 0, 0)])); // the first has none before it
+    passes(&edges(&[]));
+}
+
+#[test]
+fn three_comes_before_four_and_five() {
+    refuses(&with_record(1, p(1, 101)), 3, 7);
+    refuses(&with_record(3, t(1, "pr;p")), 3, 13);
+    refuses(&with_record(4, w(0, 1, 0)), 3, 23);
+    refuses(&with_record(13, e(0, 0, 0)), 3, 78); // after (0, 1), and equal ends
+    refuses(&with_record(13, e(0, 1, 1_001)), 3, 78);
+    let edges = |edges: &[(u8, u8, u16)]| Draft { edges: edges.to_vec(), ..sample(28) }.bytes();
+    refuses(&edges(&[(2, 1, 0), (1, 3, 0)]), 3, 78);
+    refuses(&edges(&[(2, 1, 0), (2, 3, 0)]), 4, 78);
+}
+
+#[test]
+fn whole_body_comes_before_its_content() {
+    refuses(&[&sample(28).bytes()[..13], b"T\x01;"].concat(), 1, 13);
+    refuses(&[&sample(28).bytes()[..7], b"P\x09"].concat(), 1, 7);
+    refuses(b"H\0\0", 1, 0);
+    refuses(b"X", 2, 0);
+}
+
+#[test]
+fn the_first_fault_ends_reading() {
+    let mut records = sample(28).records();
+    records[11] = w(2, 1, 0);
+    records[13] = e(0, 1, 0);
+    refuses(&records.concat(), 4, 68);
+    records[3] = t(0, "");
+    refuses(&records.concat(), 5, 13);
+    records[0] = h(65, 17, u32::MAX);
+    refuses(&records.concat(), 4, 0);
+}
+
+#[test]
+fn cut_anywhere() {
+    let plain = sample(28).bytes();
+    let plain_offsets = [0, 7, 10, 13, 23, 28, 33, 43, 48, 53, 63, 68, 73, 78, 83, 84];
+    cut_everywhere(&plain, &plain_offsets);
+    let dated = Draft { deadline: Some(14), ..sample(28) }.bytes();
+    let dated_offsets = [0, 7, 12, 15, 18, 28, 33, 38, 48, 53, 58, 68, 73, 78, 83, 88, 89];
+    cut_everywhere(&dated, &dated_offsets);
+}
+
+/// A cut between two records leaves no kind byte, and the place is the input's
+/// length; a cut inside one gives its offset. Both are the last offset not
+/// above the cut.
+fn cut_everywhere(request: &[u8], offsets: &[usize]) {
+    assert_eq!(offsets.last(), Some(&request.len()));
+    for cut in 0..request.len() {
+        let place = offsets.iter().copied().filter(|&at| at <= cut).max().unwrap();
+        refuses(&request[..cut], 1, place);
+    }
+}
+
+#[test]
+fn bytes_after_z() {
+    let good = sample(28).bytes();
+    for byte in 0..=255 {
+        refuses(&[&good[..], &[byte]].concat(), 6, 84);
+    }
+    refuses(&[good.clone(), good].concat(), 6, 84);
+    let mut records = sample(28).records();
+    records.insert(13, z());
+    refuses(&records.concat(), 6, 79);
+}
+
+// ---- Refusals after reading ----
+
+#[test]
+fn order_of_the_later_refusals() {
+    let mut draft = Draft { deadline: Some(1), ..sample(0) };
+    draft.edges.push((1, 0, 0));
+    let damaged = [&draft.bytes()[..], b"Z"].concat();
+    assert_eq!(answer_with(0, &damaged).0, refused(6, 84 + D + E));
+    assert_eq!(answer_with(2, &draft.bytes()).0, refused(7, 3));
+    assert_eq!(answer_with(3, &draft.bytes()).0, refused(8, 0));
+    draft.edges.pop();
+    assert_eq!(answer_with(2, &draft.bytes()).0, refused(7, 3));
+    assert_eq!(answer_with(3, &draft.bytes()).0, refused(9, 24));
+    draft.budget = 24;
+    assert_eq!(answer_with(3, &draft.bytes()).0, refused(11, 18));
+    draft.deadline = None;
+    assert_eq!(answer_with(3, &draft.bytes()).0, planned(3, 18, 24, 0));
+}
+
+#[test]
+fn lowest_task_with_a_path_back() {
+    let cycle =
+        |n, edges: &[(u8, u8, u16)]| answer(&Draft { edges: edges.to_vec(), ..even(n, 1) }.bytes());
+    // Task 0 only leads to the cycle.
+    assert_eq!(cycle(3, &[(0, 1, 0), (1, 2, 0), (2, 1, 0)]), refused(8, 1));
+    // Task 0 only follows it.
+    assert_eq!(cycle(3, &[(1, 2, 0), (2, 0, 0), (2, 1, 0)]), refused(8, 1));
+    // Task 0 stands between two cycles.
+    let edges = [(0, 3, 0), (1, 2, 0), (2, 0, 0), (2, 1, 0), (3, 4, 0), (4, 3, 0)];
+    assert_eq!(cycle(5, &edges), refused(8, 1));
+    // A long way round, and two cycles of which the lower one counts.
+    assert_eq!(cycle(4, &[(0, 2, 0), (1, 0, 0), (2, 3, 0), (3, 1, 0)]), refused(8, 0));
+    assert_eq!(cycle(5, &[(1, 4, 0), (2, 3, 0), (3, 2, 0), (4, 1, 0)]), refused(8, 1));
+    // The last task's loop.
+    let far = [(62, 63, 0), (63, 62, 0)];
+    assert_eq!(cycle(64, &far), refused(8, 62));
+}
+
+#[test]
+fn a_refusal_keeps_every_row() {
+    // `answer_with` compares the rows; here each number that a request can
+    // give is had once.
+    let mut cyclic = sample(28);
+    cyclic.edges.push((1, 0, 0));
+    let requests = [
+        (sample(28).bytes()[..50].to_vec(), refused(1, 48)),
+        (with_record(2, w(0, 0, 1)), refused(2, 10)),
+        (with_record(2, p(5, 1)), refused(3, 10)),
+        (with_record(2, p(1, 101)), refused(4, 10)),
+        (with_record(3, t(0, "")), refused(5, 13)),
+        ([sample(28).bytes(), z()].concat(), refused(6, 84)),
+        (cyclic.bytes(), refused(8, 0)),
+        (sample(23).bytes(), refused(9, 24)),
+        (Draft { deadline: Some(13), ..sample(28) }.bytes(), refused(11, 14)),
+    ];
+    for (request, expected) in requests {
+        assert_eq!(answer_with(64, &request).0, expected);
+    }
+    assert_eq!(answer_with(2, &sample(28).bytes()).0, refused(7, 3));
+}
+
+// ---- The program ----
+
+fn run(input: &[u8]) -> Vec<u8> {
+    let mut program = Command::new(env!("CARGO_BIN_EXE_compare"))
+        .stdin(Stdio::piped())
+        .stdout(Stdio::piped())
+        .spawn()
+        .unwrap();
+    // The program may stop reading before the end.
+    let _ = program.stdin.take().unwrap().write_all(input);
+    let output = program.wait_with_output().unwrap();
+    assert!(output.status.success());
+    output.stdout
+}
+
+#[test]
+fn the_program_prints_the_text() {
+    let good = sample(28).bytes();
+    assert_eq!(run(&good), text(&good));
+    assert_eq!(run(b""), b"no 1 0\n");
+    assert_eq!(run(&good[..9]), b"no 1 7\n");
+    assert_eq!(run(&[&good[..], &[0; 20_000]].concat()), b"no 6 84\n");
+    let largest = largest().bytes();
+    assert_eq!(run(&largest), text(&largest));
+    assert_eq!(text(&largest).split(|&byte| byte == b'\n').count(), 1 + 64 + 1);
+    assert!(text(&largest).starts_with(b"plan 64 "));
+    assert_eq!(run(&[&largest[..], &[b'E'; 20_000]].concat()), b"no 6 8381\n");
+}

@@ -1,0 +1,293 @@
+//! Random requests from a fixed seed: facts about every plan, worked out here
+//! from the numbers of the request, and damaged requests.
+
+use compare::build::Draft;
+use compare::{label, plan, read, text, Answer, Row};
+
+/// Marsaglia's xorshift with 64 bits.
+struct Random(u64);
+
+impl Random {
+    fn next(&mut self) -> u64 {
+        self.0 ^= self.0 << 13;
+        self.0 ^= self.0 >> 7;
+        self.0 ^= self.0 << 17;
+        self.0
+    }
+
+    /// Both ends are included.
+    fn within(&mut self, low: u64, high: u64) -> u64 {
+        low + self.next() % (high - low + 1)
+    }
+
+    fn one_in(&mut self, count: u64) -> bool {
+        self.within(1, count) == 1
+    }
+}
+
+/// The largest values a draft may use.
+struct Limits {
+    tasks: u64,
+    processors: u64,
+    edges: u64,
+    minutes: u64,
+    transfer: u64,
+    price: u64,
+}
+
+const SMALL: Limits =
+    Limits { tasks: 8, processors: 4, edges: 14, minutes: 20, transfer: 10, price: 9 };
+const FULL: Limits =
+    Limits { tasks: 64, processors: 16, edges: 512, minutes: 2_000, transfer: 1_000, price: 100 };
+
+fn cost(draft: &Draft, i: usize, j: usize) -> u64 {
+    u64::from(draft.tasks[i].1[j]) * u64::from(draft.prices[j])
+}
+
+fn cheapest_total(draft: &Draft) -> u64 {
+    let all = 0..draft.prices.len();
+    (0..draft.tasks.len()).map(|i| all.clone().map(|j| cost(draft, i, j)).min().unwrap()).sum()
+}
+
+/// A good request. Edges mostly follow a random order of the tasks; one draft
+/// in ten may have a cycle. The budget lies around and above the cheapest total.
+fn draft(random: &mut Random, limits: &Limits) -> Draft {
+    let n = random.within(1, limits.tasks);
+    let m = random.within(1, limits.processors);
+    let mut draft = Draft::new(0, &[], &[], &[]);
+    draft.prices = (0..m).map(|_| random.within(0, limits.price) as u8).collect();
+    for i in 0..n {
+        let minutes = (0..m).map(|_| random.within(1, limits.minutes) as u16).collect();
+        draft.tasks.push((format!("T-{i}"), minutes));
+    }
+
+    let mut order: Vec<u8> = (0..n as u8).collect();
+    for i in (1..order.len()).rev() {
+        order.swap(i, random.within(0, i as u64) as usize);
+    }
+    let any_way = random.one_in(10);
+    for _ in 0..random.within(0, limits.edges) {
+        let first = random.within(0, n - 1) as usize;
+        let second = random.within(0, n - 1) as usize;
+        let (from, to) =
+            if any_way { (first, second) } else { (first.min(second), first.max(second)) };
+        if from != to {
+            let transfer = random.within(0, limits.transfer) as u16;
+            draft.edges.push((order[from], order[to], transfer));
+        }
+    }
+    draft.edges.sort();
+    draft.edges.dedup_by_key(|edge| (edge.0, edge.1));
+
+    let cheapest = cheapest_total(&draft);
+    let budget = random.within(cheapest - cheapest / 20, cheapest * 2 + 10);
+    draft.budget = budget.min(20_000_000) as u32;
+    if random.one_in(4) {
+        draft.deadline = Some(random.within(1, limits.minutes * n + 1) as u32);
+    }
+    draft
+}
+
+/// What must hold of any answer to a good request with enough rows.
+fn check(draft: &Draft, answer: Answer, rows: &[Row]) {
+    let Answer::Planned { n, length, cost: total, left } = answer else {
+        let Answer::Refused { number, place } = answer else { unreachable!() };
+        match number {
+            8 => assert!(on_a_cycle(draft, place as u8)),
+            9 => assert_eq!(place, cheapest_total(draft)),
+            11 => assert!(place > u64::from(draft.deadline.unwrap())),
+            _ => panic!("refusal {number} at {place}"),
+        }
+        return;
+    };
+    assert_eq!(n as usize, draft.tasks.len());
+    assert!(cheapest_total(draft) <= u64::from(draft.budget));
+    let rows = &rows[..n as usize];
+    for (i, row) in rows.iter().enumerate() {
+        let j = row.processor as usize;
+        assert_eq!(row.finish, row.start + u64::from(draft.tasks[i].1[j]));
+        assert_eq!(row.cost, cost(draft, i, j));
+        for other in &rows[i + 1..] {
+            let apart = row.finish <= other.start || other.finish <= row.start;
+            assert!(row.processor != other.processor || apart);
+        }
+        // The data is there, and a task starts late only for its data or
+        // behind another task on its processor.
+        let entering = draft.edges.iter().filter(|edge| usize::from(edge.1) == i);
+        let arrivals: Vec<u64> = entering
+            .map(|&(from, _, transfer)| {
+                let before = rows[usize::from(from)];
+                let same = before.processor == row.processor;
+                before.finish + if same { 0 } else { u64::from(transfer) }
+            })
+            .collect();
+        assert!(arrivals.iter().all(|&arrival| arrival <= row.start));
+        let behind = |other: &Row| other.processor == row.processor && other.finish == row.start;
+        assert!(row.start == 0 || arrivals.contains(&row.start) || rows.iter().any(behind));
+    }
+    assert_eq!(total, rows.iter().map(|row| row.cost).sum::<u64>());
+    assert_eq!(total + left, u64::from(draft.budget));
+    assert_eq!(length, rows.iter().map(|row| row.finish).max().unwrap());
+    assert!(draft.deadline.is_none_or(|deadline| length <= u64::from(deadline)));
+}
+
+/// Whether this task has a path back to itself and no lower task has: the
+/// reach of every task, by Warshall's closure.
+fn on_a_cycle(draft: &Draft, task: u8) -> bool {
+    let n = draft.tasks.len();
+    let mut reach = vec![vec![false; n]; n];
+    for &(from, to, _) in &draft.edges {
+        reach[usize::from(from)][usize::from(to)] = true;
+    }
+    for over in 0..n {
+        for from in 0..n {
+            for to in 0..n {
+                reach[from][to] |= reach[from][over] && reach[over][to];
+            }
+        }
+    }
+    (0..n).find(|&i| reach[i][i]) == Some(usize::from(task))
+}
+
+/// Counts of plans (at 0) and of each refusal, so that a test can show that it
+/// met them.
+#[derive(Default)]
+struct Met([u64; 12]);
+
+impl Met {
+    fn note(&mut self, answer: Answer) {
+        match answer {
+            Answer::Planned { .. } => self.0[0] += 1,
+            Answer::Refused { number, .. } => self.0[number as usize] += 1,
+        }
+    }
+
+    fn at_least(&self, count: u64, numbers: &[usize]) {
+        assert!(numbers.iter().all(|&number| self.0[number] >= count), "{:?}", self.0);
+    }
+}
+
+fn check_many(random: &mut Random, limits: &Limits, count: usize) {
+    let mut met = Met::default();
+    for _ in 0..count {
+        let draft = draft(random, limits);
+        let mut rows = [Row::default(); 64];
+        let answer = plan(&draft.bytes(), &mut rows);
+        check(&draft, answer, &rows);
+        met.note(answer);
+    }
+    met.at_least(20, &[0, 8, 9, 11]);
+}
+
+#[test]
+fn facts_of_small_plans() {
+    check_many(&mut Random(0x9E37_79B9_7F4A_7C15), &SMALL, 20_000);
+}
+
+#[test]
+fn facts_of_full_plans() {
+    check_many(&mut Random(0xD1B5_4A32_D192_ED03), &FULL, 3_000);
+}
+
+/// Times by a, prices by b, budget by both: the same processors, starts and
+/// finishes by a, costs by a x b; refusal 8 the same, 9 by a x b, 11 by a.
+#[test]
+fn multiplied_requests() {
+    let mut random = Random(0xA076_1D64_78BD_642F);
+    let mut met = Met::default();
+    for _ in 0..20_000 {
+        let draft = draft(&mut random, &SMALL);
+        let (a, b) = (random.within(1, 7), random.within(1, 7));
+        let (mut rows, mut more) = ([Row::default(); 64], [Row::default(); 64]);
+        let answer = plan(&draft.bytes(), &mut rows);
+        let multiplied = plan(&draft.times(a as u8, b as u8).bytes(), &mut more);
+        let expected = match answer {
+            Answer::Planned { n, length, cost, left } => {
+                Answer::Planned { n, length: length * a, cost: cost * a * b, left: left * a * b }
+            }
+            Answer::Refused { number, place } => {
+                let factor = [1, a * b, 1, a][number as usize - 8];
+                Answer::Refused { number, place: place * factor }
+            }
+        };
+        assert_eq!(multiplied, expected);
+        for (row, more) in rows.iter().zip(&more) {
+            assert_eq!(more.processor, row.processor);
+            assert_eq!((more.start, more.finish), (row.start * a, row.finish * a));
+            assert_eq!(more.cost, row.cost * a * b);
+        }
+        met.note(answer);
+    }
+    met.at_least(20, &[0, 8, 9, 11]);
+}
+
+/// One to three changes, each of a byte, of a bit, a cut, a byte more or a
+/// byte less.
+fn damage(random: &mut Random, request: &mut Vec<u8>) {
+    for _ in 0..random.within(1, 3) {
+        let at = random.within(0, request.len() as u64) as usize;
+        let byte = random.next() as u8;
+        match random.within(1, 5) {
+            1 => request.truncate(at),
+            2 => request.insert(at, byte),
+            _ if at == request.len() => request.push(byte),
+            3 => request[at] = byte,
+            4 => request[at] ^= 1 << random.within(0, 7),
+            _ => drop(request.remove(at)),
+        }
+    }
+}
+
+#[test]
+fn damaged_requests() {
+    const KEPT: Row = Row { processor: 91, start: 92, finish: 93, cost: 94 };
+    let mut random = Random(0xE703_7ED1_A0B4_28DB);
+    let mut met = Met::default();
+    for round in 0..30_000 {
+        let limits = if round % 10 == 0 { &FULL } else { &SMALL };
+        let mut request = draft(&mut random, limits).bytes();
+        damage(&mut random, &mut request);
+        let mut rows = [KEPT; 64];
+        let lent = if random.one_in(4) { random.within(0, 64) as usize } else { 64 };
+        let answer = plan(&request, &mut rows[..lent]);
+        let written = match answer {
+            Answer::Planned { n, cost, left, .. } => {
+                let budget = u32::from_le_bytes(request[3..7].try_into().unwrap());
+                assert_eq!(cost + left, u64::from(budget));
+                assert_eq!(n, u64::from(request[1]));
+                n as usize
+            }
+            Answer::Refused { number, place } => {
+                let in_reading = number <= 6;
+                assert_eq!(read(&request).is_err(), in_reading);
+                assert!(!in_reading || place as usize <= request.len());
+                0
+            }
+        };
+        assert!(rows[..written].iter().all(|row| *row != KEPT));
+        assert!(rows[written..].iter().all(|row| *row == KEPT));
+        let head = text(&request);
+        assert!(head.starts_with(b"plan ") || head.starts_with(b"no "));
+        for task in [0, 7, 64] {
+            let good = read(&request).is_ok_and(|workflow| task < workflow.tasks);
+            assert_eq!(label(&request, task).is_empty(), !good);
+        }
+        met.note(answer);
+    }
+    met.at_least(20, &[0, 1, 2, 3, 4, 5, 6, 7, 8, 9, 11]);
+}
+
+#[test]
+fn bytes_without_sense() {
+    let mut random = Random(0x8EBC_6AF0_9C88_C6E3);
+    for _ in 0..20_000 {
+        let length = random.within(0, 200) as usize;
+        let mut request: Vec<u8> =
+            (0..length).map(|_| b"HDPTWEZ\0\x01\x02 a"[random.within(0, 11) as usize]).collect();
+        if random.one_in(2) {
+            request.splice(..0, *b"H\x01\x01\0\0\0\0P\0\0");
+        }
+        let answer = plan(&request, &mut [Row::default(); 64]);
+        assert!(matches!(answer, Answer::Refused { number: 1..=6, .. }));
+    }
+}

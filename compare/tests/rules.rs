@@ -1,0 +1,175 @@
+//! Ranks, ties and the choice of a processor, each on a request small enough
+//! to be worked out by hand. The first five are the "Slips that look right" of
+//! document 01; the comments say what the slip would answer.
+
+use compare::build::{sample, Draft};
+use compare::{plan, ranks, read, Answer, Row};
+
+/// (length, cost, left), and for each task (processor, start, finish, cost).
+type Plan = ((u64, u64, u64), Vec<(u64, u64, u64, u64)>);
+
+fn planned(draft: &Draft) -> Plan {
+    let mut rows = [Row::default(); 64];
+    match plan(&draft.bytes(), &mut rows) {
+        Answer::Planned { n, length, cost, left } => {
+            let rows = rows[..n as usize].iter();
+            let rows = rows.map(|row| (row.processor, row.start, row.finish, row.cost));
+            ((length, cost, left), rows.collect())
+        }
+        refusal => panic!("{refusal:?}"),
+    }
+}
+
+fn ranks_of(draft: &Draft) -> Vec<i64> {
+    ranks(&read(&draft.bytes()).unwrap()).unwrap()
+}
+
+// ---- Slips ----
+
+#[test]
+fn slip_rounding_the_mean() {
+    // R 2 and 3, so task 1 goes first. Means rounded down are 1 and 1, and
+    // task 0 would go first: both on processor 0, length 2.
+    let down = Draft::new(0, &[0, 0], &[&[1, 1], &[1, 2]], &[]);
+    assert_eq!(ranks_of(&down), [2, 3]);
+    assert_eq!(planned(&down), ((1, 0, 0), vec![(1, 0, 1, 0), (0, 0, 1, 0)]));
+    assert_eq!(planned(&down.times(2, 1)), ((2, 0, 0), vec![(1, 0, 2, 0), (0, 0, 2, 0)]));
+
+    // R 3 and 4, so task 1 goes first. Means rounded up are 2 and 2, and the
+    // processors would be 0 and 1.
+    let up = Draft::new(0, &[0, 0], &[&[1, 2], &[2, 2]], &[]);
+    assert_eq!(ranks_of(&up), [3, 4]);
+    assert_eq!(planned(&up), ((2, 0, 0), vec![(1, 0, 2, 0), (0, 0, 2, 0)]));
+    assert_eq!(planned(&up.times(2, 1)), ((4, 0, 0), vec![(1, 0, 4, 0), (0, 0, 4, 0)]));
+}
+
+#[test]
+fn slip_counting_the_task_in_hand_inside_rcb() {
+    // RB - RCB for prep is 24 - 14, just its lowest cost; with prep inside RCB
+    // it would be 0 and the answer refusal 10.
+    let rows = vec![(0, 0, 10, 10), (0, 10, 18, 8), (1, 13, 15, 6)];
+    assert_eq!(planned(&sample(24)), ((18, 24, 0), rows));
+}
+
+#[test]
+fn slip_best_only_among_affordable_processors() {
+    // Costs 20, 10, 100. Best is processor 2 though 100 is above the budget, so
+    // 0 and 1 may be taken; both score 0 and finish at 10. Best among the
+    // affordable ones would be 1, and 0 with its cost of 20 shut out.
+    let draft = Draft::new(50, &[2, 1, 20], &[&[10, 10, 5]], &[]);
+    assert_eq!(planned(&draft), ((10, 20, 30), vec![(0, 0, 10, 20)]));
+}
+
+#[test]
+fn slip_transfer_on_the_same_processor() {
+    // Task 1 would start at 8.
+    let draft = Draft::new(10, &[1], &[&[3], &[4]], &[(0, 1, 5)]);
+    assert_eq!(planned(&draft), ((7, 7, 3), vec![(0, 0, 3, 3), (0, 3, 7, 4)]));
+}
+
+#[test]
+fn slip_rb_at_the_whole_budget() {
+    // Left would score 672 on processor 1 against 144 on 0, and the cost be 30.
+    let rows = vec![(1, 0, 4, 12), (0, 6, 14, 8), (1, 4, 6, 6)];
+    assert_eq!(planned(&sample(28)), ((14, 26, 2), rows));
+}
+
+// ---- Ranks and placing order ----
+
+#[test]
+fn rank_takes_the_largest_way_out() {
+    // m 2: R(3) 2, R(2) 20, R(1) 4 + 2 x 9 + 2, R(0) 2 + the larger of
+    // 2 x 1 + 24 and 2 x 2 + 20.
+    let minutes: [&[u16]; 4] = [&[1, 1], &[2, 2], &[10, 10], &[1, 1]];
+    let draft = Draft::new(100, &[1, 1], &minutes, &[(0, 1, 1), (0, 2, 2), (1, 3, 9)]);
+    assert_eq!(ranks_of(&draft), [28, 24, 20, 2]);
+}
+
+#[test]
+fn edges_may_lead_to_lower_numbers() {
+    let draft = Draft::new(9, &[1], &[&[1], &[3], &[5]], &[(1, 0, 7), (2, 1, 0)]);
+    assert_eq!(ranks_of(&draft), [1, 11, 16]);
+    let rows = vec![(0, 8, 9, 1), (0, 5, 8, 3), (0, 0, 5, 5)];
+    assert_eq!(planned(&draft), ((9, 9, 0), rows));
+}
+
+#[test]
+fn tie_of_ranks_goes_to_the_lower_number() {
+    // R 5, 7, 5, 7: placed as 1, 3, 0, 2.
+    let draft = Draft::new(0, &[0], &[&[5], &[7], &[5], &[7]], &[]);
+    let rows = vec![(0, 14, 19, 0), (0, 0, 7, 0), (0, 19, 24, 0), (0, 7, 14, 0)];
+    assert_eq!(planned(&draft), ((24, 0, 0), rows));
+}
+
+// ---- Start ----
+
+#[test]
+fn start_is_never_in_an_earlier_gap() {
+    // S(24) leaves processor 1 idle until 13. A last task, costing 3 on either,
+    // starts there at 15 behind `right` and not at 0.
+    let mut draft = sample(27);
+    draft.tasks.push(("tiny".to_string(), vec![3, 1]));
+    let rows = vec![(0, 0, 10, 10), (0, 10, 18, 8), (1, 13, 15, 6), (1, 15, 16, 3)];
+    assert_eq!(planned(&draft), ((18, 27, 0), rows));
+}
+
+#[test]
+fn data_is_ready_with_the_last_predecessor() {
+    // Everything is free. Tasks 0 and 1 run side by side until 6 and 5; task 2
+    // has its data at 6 + 4 on processor 1 and at 5 + 2, after 6, on 0.
+    let minutes: [&[u16]; 3] = [&[6, 9], &[5, 5], &[1, 1]];
+    let draft = Draft::new(0, &[0, 0], &minutes, &[(0, 2, 4), (1, 2, 2)]);
+    assert_eq!(planned(&draft), ((8, 0, 0), vec![(0, 0, 6, 0), (1, 0, 5, 0), (0, 7, 8, 0)]));
+}
+
+// ---- Choice ----
+
+#[test]
+fn tie_of_best_goes_to_the_lower_cost() {
+    // Both finish at 5, costs 10 and 5. With best 0 both might be taken, both
+    // would score 0, and 0 would win.
+    let draft = Draft::new(100, &[2, 1], &[&[5, 5]], &[]);
+    assert_eq!(planned(&draft), ((5, 5, 95), vec![(1, 0, 5, 5)]));
+}
+
+#[test]
+fn dearer_than_best_may_not_be_taken() {
+    // Processor 0 would cost more than the faster processor 1.
+    let draft = Draft::new(100, &[2, 1], &[&[6, 5]], &[]);
+    assert_eq!(planned(&draft), ((5, 5, 95), vec![(1, 0, 5, 5)]));
+}
+
+#[test]
+fn tie_of_score_goes_to_the_earlier_finish() {
+    // Task 0: costs 15, 30, 20, finishes 15, 10, 20, B 15, F 10, RB 80, RCB 40.
+    // Scores 6,000 + 6,000 and 12,000 and 4,000; 1 finishes before 0.
+    let minutes: [&[u16]; 2] = [&[15, 10, 20], &[40, 14, 40]];
+    let draft = Draft::new(80, &[1, 3, 1], &minutes, &[(0, 1, 0)]);
+    assert_eq!(planned(&draft), ((24, 72, 8), vec![(1, 0, 10, 30), (1, 10, 24, 42)]));
+}
+
+#[test]
+fn tie_of_score_and_finish_goes_to_the_lower_number() {
+    let draft = Draft::new(100, &[1, 1, 1], &[&[9, 5, 5]], &[]);
+    assert_eq!(planned(&draft), ((5, 5, 95), vec![(1, 0, 5, 5)]));
+}
+
+#[test]
+fn b_is_over_all_processors() {
+    // Task 0: costs 14, 30, 2,000, finishes 14, 10, 20, F 10, RB 80, RCB 40.
+    // B 1,986 gives 959,680 and 1,588,800; over those that may be taken B would
+    // be 16, giving 14,080 and 12,800.
+    let minutes: [&[u16]; 2] = [&[14, 10, 20], &[40, 14, 40]];
+    let draft = Draft::new(80, &[1, 3, 100], &minutes, &[(0, 1, 0)]);
+    assert_eq!(planned(&draft), ((24, 72, 8), vec![(1, 0, 10, 30), (1, 10, 24, 42)]));
+}
+
+#[test]
+fn f_is_over_all_processors() {
+    // Task 0: costs 14, 30, 31, finishes 14, 10, 31, B 17, RB 80, RCB 40.
+    // F 21 gives 36,560 and 28,560; over those that may be taken F would be 4,
+    // giving 25,680 on processor 0.
+    let minutes: [&[u16]; 2] = [&[14, 10, 31], &[40, 14, 40]];
+    let draft = Draft::new(80, &[1, 3, 1], &minutes, &[(0, 1, 0)]);
+    assert_eq!(planned(&draft), ((28, 56, 24), vec![(0, 0, 14, 14), (1, 14, 28, 42)]));
+}
