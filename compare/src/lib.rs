@@ -5,6 +5,7 @@
 pub mod build;
 mod plan;
 mod print;
+pub mod random;
 mod request;
 
 pub use plan::{ranks, schedule};

@@ -4,14 +4,15 @@ use mathlib.Core.Bool.{Bool, true, false}
 use mathlib.Core.List.{List, _++_}
 use lib.ListN.{length, drop}
 use lib.Dec.{ltb}
-use Rattle.rules.specs.Folds.{listed}
+use Rattle.rules.specs.Folds.{listing}
 use Rattle.rules.specs.Records.{Read, read, stopped}
 use Rattle.rules.specs.Reading.{Deadline, no-deadline, by, Request, read-request}
 use Rattle.rules.specs.Workflow.{Workflow, workflow}
 use Rattle.rules.specs.Cycle.{cyclic, lowest-in-cycle}
 use Rattle.rules.specs.Ranks.{cheapest-total}
 use Rattle.rules.specs.Method.{Method, HBCS}
-use Rattle.rules.specs.Placing.{Row, Placed, row-of, spent, length-of, Placing, so-far, stuck, place}
+use Rattle.rules.specs.Rows.{Row, Placed, row-of, spent, length-of}
+use Rattle.rules.specs.Placing.{Placing, so-far, stuck, place}
 
 -- What is decided: a plan of this workflow with its tasks placed, or a refusal, number and place.
 pub data Outcome : Type 0 where
@@ -55,16 +56,16 @@ pub data Answer : Type 0 where
   planned : (n length cost left : ℕ) → Answer
   refused : (number place : ℕ) → Answer
 
-unfoldable pub answered : Outcome → Answer
-answered (plan W rows) = planned (W .tasks) (length-of rows) (spent rows) (W .budget - spent rows)
-answered (refusal number place) = refused number place
+unfoldable pub answer-of : Outcome → Answer
+answer-of (plan W rows) = planned (W .tasks) (length-of rows) (spent rows) (W .budget - spent rows)
+answer-of (refusal number place) = refused number place
 
 unfoldable pub answer : List ℕ → ℕ → Answer
-answer s lent = answered (outcome s lent)
+answer s lent = answer-of (outcome s lent)
 
 -- "A plan writes rows 0 to n-1 of the lent slice [..]. Rows from n on keep their content. A refusal changes no row."
 unfoldable pub written : Outcome → List Row → List Row
-written (plan W rows) lent = listed (W .tasks) (row-of rows) ++ drop (W .tasks) lent
+written (plan W rows) lent = listing (W .tasks) (row-of rows) ++ drop (W .tasks) lent
 written (refusal number place) lent = lent
 
 unfoldable pub rows-after : List ℕ → List Row → List Row

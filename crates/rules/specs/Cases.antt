@@ -5,7 +5,7 @@ use mathlib.Core.Path.{_≡_}
 use mathlib.Core.List.{List, [], _∷_, _++_}
 use lib.ListN.{length, drop}
 use Rattle.label.specs.Length.{stands-in, all, is-label, length-up-to, label-length}
-use Rattle.rules.specs.Folds.{sum, largest, lowest, any, listed}
+use Rattle.rules.specs.Folds.{sum, largest, lowest, any, listing}
 use Rattle.rules.specs.Orders.{tie, lower, higher, among, first}
 use Rattle.rules.specs.Fields.{kind-byte, body, size, byte, two-bytes, four-bytes, H-tasks, H-processors, H-budget, D-deadline, P-processor}
 use Rattle.rules.specs.Fields.{P-price, T-task, T-label, W-task, W-processor, W-minutes, E-from, E-to, E-transfer}
@@ -18,10 +18,9 @@ use Rattle.rules.specs.Cycle.{linked, leads-through, back-to-itself, cyc
 use Rattle.rules.specs.Ranks.{cost, lowest-cost, cheapest-total, rank-by, rank-within, R, next-task}
 use Rattle.rules.specs.Start.{arrival, ready, latest-end, start-on}
 use Rattle.rules.specs.Method.{best, may-be-taken, latest-finish, B, F, or-one, score, preferred, HBCS}
-use Rattle.rules.specs.Placing.{Row, row-of, is-placed, busy, ready-for, start-of, finish-of, spent, length-of, RB, RCB, question, row-on, put}
-use Rattle.rules.specs.Placing.{place-next, place}
-use Rattle.rules.specs.Answer.{Answer, refused, refuse, too-late, placed-outcome, outcome-by, outcome-read, outcome, answer, written, rows-after}
-use Rattle.rules.specs.Answer as comes-back
+use Rattle.rules.specs.Rows.{Row, row-of, is-placed, busy, spent, length-of}
+use Rattle.rules.specs.Placing.{ready-for, start-of, finish-of, RB, RCB, question, row-on, put, place-next, place}
+use Rattle.rules.specs.Answer.{Answer, refused, refuse, too-late, placed-outcome, outcome-by, outcome-read, outcome, answer-of, answer, written, rows-after}
 use Rattle.rules.specs.Text.{bytes, digits, decimal, line, first-line, row-line, lines, row-lines, text}
 
 -- A number below 65,536 in two bytes, and in four.
@@ -82,7 +81,7 @@ planned-case input answer rows =
 unfoldable pub given : Case → Back
 unfolding
     stands-in all is-label length-up-to label-length
-    sum largest lowest any listed tie lower higher among first
+    sum largest lowest any listing tie lower higher among first
     kind-byte body size byte two-bytes four-bytes
     H-tasks H-processors H-budget D-deadline P-processor P-price T-task T-label W-task W-processor W-minutes E-from E-to E-transfer
     unless first-fault opening answered record-at within
@@ -95,7 +94,7 @@ unfolding
     arrival ready latest-end start-on
     best may-be-taken latest-finish B F or-one score preferred HBCS
     row-of is-placed busy ready-for start-of finish-of spent length-of RB RCB question row-on put place-next place
-    refuse too-late placed-outcome outcome-by outcome-read outcome comes-back.answered answer written rows-after
+    refuse too-late placed-outcome outcome-by outcome-read outcome answer-of answer written rows-after
     bytes digits decimal line first-line row-line lines row-lines text
 given c = record { answer = answer (c .input) (length (c .lent)); rows = rows-after (c .input) (c .lent) }
 
@@ -106,7 +105,7 @@ All-given (c ∷ cases) = (given c ≡ c .due) × All-given cases
 
 -- The ranks of a request's tasks; none where it is refused in reading.
 unfoldable pub ranks-in : List ℕ → Read Request → List ℕ
-ranks-in s (read next r) = listed (r .tasks) (R (workflow s r))
+ranks-in s (read next r) = listing (r .tasks) (R (workflow s r))
 ranks-in s (stopped number place) = []
 
 unfoldable pub ranks : List ℕ → List ℕ

@@ -1,7 +1,9 @@
 -- Cases beside the starred ones, where slips that look right would change the answer: one list, one theorem.
 use Prim.Native.Nat.{ℕ, _*_}
-use mathlib.Core.Path.{refl}
+use mathlib.Core.Path.{_≡_, refl}
 use mathlib.Core.List.{List, [], _∷_, _++_}
+use lib.ListN.{take}
+use Rattle.rules.specs.Labels.{empty-start, label-lookup, label}
 use Rattle.rules.specs.Answer.{planned}
 use Rattle.rules.specs.Text.{bytes}
 use Rattle.rules.specs.Cases.{H-record, D-record, P-record, T-record, W-record, E-record, row, Case, refused-case, planned-case, given, All-given}
@@ -39,7 +41,7 @@ equal-finishes =
     H-record 1 2 50 ++ P-record 0 2 ++ P-record 1 1 ++ T-record 0 "one     " ++ W-record 0 0 10 ++ W-record 0 1 10 ++ bytes "Z"
 
 -- Two tasks of equal R on one processor: the lower number first.
-equal-ranks : List ℕ
+pub equal-ranks : List ℕ
 equal-ranks =
     H-record 2 1 50 ++ P-record 0 1 ++ T-record 0 "one     " ++ W-record 0 0 3 ++ T-record 1 "two     " ++ W-record 1 0 3 ++ bytes "Z"
 
@@ -79,3 +81,13 @@ corners =
 pub in-corners : All-given corners
 unfolding given near-means best-past-budget equal-finishes equal-ranks deadlines with-edges corners
 in-corners = (refl, (refl, (refl, (refl, (refl, (refl, (refl, (refl, (refl, (refl, (refl, tt)))))))))))
+
+-- The label lookup: a task's label, the last task's, a task that is not there, and a request refused in reading.
+pub looked-up :
+    (label equal-ranks 1 ≡ bytes "two")
+    × (label-lookup equal-ranks 0 ≡ record { begin = 12; length = 3 })
+    × (label-lookup equal-ranks 1 ≡ record { begin = 27; length = 3 })
+    × (label-lookup equal-ranks 2 ≡ empty-start)
+    × (label-lookup (take 40 equal-ranks) 0 ≡ empty-start)
+unfolding given equal-ranks
+looked-up = (refl, refl, refl, refl, refl)

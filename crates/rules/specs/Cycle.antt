@@ -1,6 +1,6 @@
 -- Refusal 8: "the edges have a cycle", place "lowest task with a path back to itself".
 use Prim.Native.Nat.{ℕ, zero, suc, _<_}
-use mathlib.Core.Bool.{Bool, true, false, _&&_, _||_}
+use mathlib.Core.Bool.{Bool, _&&_, _||_}
 use lib.Dec.{eqb}
 use Rattle.rules.specs.Folds.{any}
 use Rattle.rules.specs.Orders.{tie, among, first}

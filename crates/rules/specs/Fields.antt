@@ -3,7 +3,7 @@ use Prim.Native.Nat.{ℕ, _+_, _*_}
 use mathlib.Core.List.{List}
 use lib.ListN.{getD}
 
--- The table: each kind's byte, and how many bytes its body has.
+-- Each kind's byte, and how many bytes its body has.
 pub data Kind : Type 0 where
   H D P T W E Z : Kind
 

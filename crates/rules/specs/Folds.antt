@@ -1,6 +1,6 @@
 -- "Sum over", "largest over", "lowest": over the numbers below a count, in one form.
 use Prim.Native.Nat.{ℕ, zero, suc, _+_, max, min}
-use mathlib.Core.Bool.{Bool, true, false, _||_}
+use mathlib.Core.Bool.{Bool, false, _||_}
 use mathlib.Core.List.{List, [], _∷_, _++_}
 
 -- f 0 + .. + f (k - 1)
@@ -24,6 +24,6 @@ any zero test = false
 any (suc k) test = any k test || test k
 
 -- f 0, .., f (k - 1)
-unfoldable pub listed {ℓ} : {A : Type ℓ} → ℕ → (ℕ → A) → List A
-listed zero f = []
-listed (suc k) f = listed k f ++ (f k ∷ [])
+unfoldable pub listing {ℓ} : {A : Type ℓ} → ℕ → (ℕ → A) → List A
+listing zero f = []
+listing (suc k) f = listing k f ++ (f k ∷ [])

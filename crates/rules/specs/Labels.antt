@@ -1,6 +1,6 @@
 -- "The label lookup takes a request's bytes and a task number."
 use Prim.Native.Nat.{ℕ}
-use mathlib.Core.Bool.{Bool, true, false, cond}
+use mathlib.Core.Bool.{cond}
 use mathlib.Core.List.{List}
 use lib.ListN.{take, drop}
 use lib.Dec.{ltb}

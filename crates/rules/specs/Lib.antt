@@ -9,8 +9,10 @@ pub mod Cycle
 pub mod Ranks
 pub mod Start
 pub mod Method
+pub mod Rows
 pub mod Placing
 pub mod Answer
+pub mod Multiplied
 pub mod Text
 pub mod Cases
 pub mod Starred

@@ -1,6 +1,6 @@
 -- Choosing a processor for the task in hand: HBCS.
 use Prim.Native.Nat.{ℕ, zero, suc, _+_, _*_, _-_}
-use mathlib.Core.Bool.{Bool, true, false, cond, _&&_}
+use mathlib.Core.Bool.{Bool, cond, _&&_}
 use lib.Dec.{leb}
 use Rattle.rules.specs.Folds.{largest, lowest}
 use Rattle.rules.specs.Orders.{Order, tie, lower, higher, among, first}

@@ -1,6 +1,6 @@
 -- "Ties to": choosing a number below a count by one figure after the other, the last word being with the lower number.
 use Prim.Native.Nat.{ℕ, zero, suc}
-use mathlib.Core.Bool.{Bool, true, false, cond, not, _&&_, _||_}
+use mathlib.Core.Bool.{Bool, false, cond, not, _&&_, _||_}
 use lib.Dec.{ltb, eqb}
 
 -- `beats i j`: i goes before j, whichever is the lower number.

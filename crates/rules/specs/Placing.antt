@@ -1,43 +1,14 @@
 -- Placing the tasks one after the other, by any method.
-use Prim.Native.Nat.{ℕ, zero, suc, _+_, _-_, max}
-use mathlib.Core.Bool.{Bool, true, false, cond, _||_}
+use Prim.Native.Nat.{ℕ, zero, suc, _+_, _-_}
+use mathlib.Core.Bool.{cond, _||_}
 use mathlib.Core.List.{List, [], _∷_}
 use lib.Dec.{eqb}
 use Rattle.rules.specs.Folds.{sum}
 use Rattle.rules.specs.Workflow.{Workflow}
 use Rattle.rules.specs.Ranks.{cost, lowest-cost, next-task}
-use Rattle.rules.specs.Start.{ready, Interval, start-on}
+use Rattle.rules.specs.Start.{ready, start-on}
+use Rattle.rules.specs.Rows.{Row, Placed, row-of, is-placed, busy, spent}
 use Rattle.rules.specs.Method.{Question, Choice, take, nothing, Method}
-
--- "row i for task i: processor, start, finish, cost"
-pub record Row : Type 0 where
-  pub processor : ℕ
-  pub start : ℕ
-  pub finish : ℕ
-  pub cost : ℕ
-
-pub record Placed : Type 0 where
-  pub task : ℕ
-  pub row : Row
-
-abbrev pub no-row : Row
-no-row = record { processor = 0; start = 0; finish = 0; cost = 0 }
-
--- The row of task i, among the tasks placed so far, the newest first.
-unfoldable pub row-of : List Placed → ℕ → Row
-row-of [] i = no-row
-row-of (p ∷ so-far) i = cond (eqb (p .task) i) (p .row) (row-of so-far i)
-
-unfoldable pub is-placed : List Placed → ℕ → Bool
-is-placed [] i = false
-is-placed (p ∷ so-far) i = eqb (p .task) i || is-placed so-far i
-
--- What processor j is busy with.
-unfoldable pub busy : List Placed → ℕ → List Interval
-busy [] j = []
-busy (p ∷ so-far) j =
-    let r = p .row in
-    cond (eqb (r .processor) j) (record { begin = r .start; end = r .finish } ∷ busy so-far j) (busy so-far j)
 
 -- Ready, start and finish of task i on processor j.
 unfoldable pub ready-for : Workflow → List Placed → ℕ → ℕ → ℕ
@@ -49,15 +20,6 @@ start-of W so-far i j = start-on (busy so-far j) (ready-for W so-far i j) (W .mi
 -- "Finish = start + w."
 unfoldable pub finish-of : Workflow → List Placed → ℕ → ℕ → ℕ
 finish-of W so-far i j = start-of W so-far i j + W .minutes i j
-
--- The costs already chosen, and the largest finish.
-unfoldable pub spent : List Placed → ℕ
-spent [] = 0
-spent (p ∷ so-far) = spent so-far + p .row .cost
-
-unfoldable pub length-of : List Placed → ℕ
-length-of [] = 0
-length-of (p ∷ so-far) = max (length-of so-far) (p .row .finish)
 
 -- "RB: budget less the costs already chosen." A cost that may be taken is at most RB, so it never falls below 0.
 unfoldable pub RB : Workflow → List Placed → ℕ

@@ -1,6 +1,6 @@
 -- Ranks and placing order.
 use Prim.Native.Nat.{ℕ, zero, suc, _+_, _*_}
-use mathlib.Core.Bool.{Bool, true, false, cond, not}
+use mathlib.Core.Bool.{Bool, cond, not}
 use lib.Dec.{eqb}
 use Rattle.rules.specs.Folds.{sum, largest, lowest}
 use Rattle.rules.specs.Orders.{tie, higher, among, first}

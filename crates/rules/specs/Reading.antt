@@ -1,6 +1,6 @@
 -- Reading a request: "Records are checked from the front and the first fault ends reading."
 use Prim.Native.Nat.{ℕ, suc, zero, _+_}
-use mathlib.Core.Bool.{Bool, true, false, cond}
+use mathlib.Core.Bool.{cond}
 use mathlib.Core.List.{List}
 use lib.ListN.{length}
 use lib.Dec.{ltb, eqb}

@@ -4,8 +4,9 @@ use Prim.Native.String.{String}
 use mathlib.Core.Path.{_≡_, refl}
 use mathlib.Core.List.{List, [], _∷_, _++_}
 use lib.ListN.{length, take, drop}
-use Rattle.rules.specs.Answer.{planned, refused}
-use Rattle.rules.specs.Text.{bytes, text}
+use Rattle.rules.specs.Answer.{planned, refused, answer}
+use Rattle.rules.specs.Multiplied.{multiplied-place, multiplied-answer}
+use Rattle.rules.specs.Text.{bytes, program}
 use Rattle.rules.specs.Cases.{H-record, D-record, P-record, T-record, W-record, E-record, row, four-rows, Case, refused-case, planned-case}
 use Rattle.rules.specs.Cases.{given, All-given, ranks-in, ranks}
 
@@ -67,7 +68,16 @@ unfolding given sample S ranks-in ranks
 sampled = (refl, refl)
 
 pub printed :
-    (text (S 28) ≡ bytes "plan 3 14 26 2\nprep 1 0 4 12\nleft 0 6 14 8\nright 1 4 6 6\n")
-    × (text (S 23) ≡ bytes "no 9 24\n")
-unfolding given sample S
+    (program (S 28) ≡ bytes "plan 3 14 26 2\nprep 1 0 4 12\nleft 0 6 14 8\nright 1 4 6 6\n")
+    × (program (S 23) ≡ bytes "no 9 24\n")
+unfolding given sample S program
 printed = (refl, refl)
+
+-- Times by 3 and prices by 2: the plan of S(28), and the places of refusals 9, 11 and 8.
+pub sample-multiplied :
+    (answer (sample 3 2 168 "prep    " [] []) 64 ≡ multiplied-answer 3 2 (answer (S 28) 64))
+    × (answer (sample 3 2 138 "prep    " [] []) 64 ≡ multiplied-answer 3 2 (answer (S 23) 64))
+    × (answer (sample 3 2 168 "prep    " (D-record 39) []) 64 ≡ multiplied-answer 3 2 (answer (sample 1 1 28 "prep    " (D-record 13) []) 64))
+    × (answer (sample 3 2 168 "prep    " [] (E-record 1 0 0)) 64 ≡ multiplied-answer 3 2 (answer (sample 1 1 28 "prep    " [] (E-record 1 0 0)) 64))
+unfolding given sample S multiplied-place multiplied-answer
+sample-multiplied = (refl, refl, refl, refl)

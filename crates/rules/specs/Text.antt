@@ -3,11 +3,12 @@ use Prim.Native.Nat.{ℕ, zero, suc, _+_, _/_, _%_}
 use Prim.Native.Char.{code}
 use Prim.Native.String.{String}
 use Prim.Native.String as String
-use mathlib.Core.Bool.{Bool, true, false, cond}
+use mathlib.Core.Bool.{cond}
 use mathlib.Core.List.{List, [], _∷_, _++_}
+use lib.ListN.{take}
 use lib.Dec.{ltb}
 use Rattle.rules.specs.Labels.{label}
-use Rattle.rules.specs.Placing.{Row, row-of}
+use Rattle.rules.specs.Rows.{Row, row-of}
 use Rattle.rules.specs.Answer.{Outcome, plan, refusal, outcome, Answer, planned, refused, answer}
 
 -- The bytes of a quoted text. Every text quoted in these files is ASCII.
@@ -48,6 +49,10 @@ unfoldable pub row-lines : List ℕ → Outcome → List ℕ
 row-lines s (plan W rows) = lines (W .tasks) (λ i. row-line (label s i) (row-of rows i))
 row-lines s (refusal number place) = []
 
--- "The program lends 64 rows". What it prints for the input s.
+-- "The program lends 64 rows": the text of the whole input s.
 unfoldable pub text : List ℕ → List ℕ
 text s = first-line (answer s 64) ++ row-lines s (outcome s 64)
+
+-- "and reads at most 16,384 bytes from standard input": what it writes.
+unfoldable pub program : List ℕ → List ℕ
+program input = text (take 16_384 input)

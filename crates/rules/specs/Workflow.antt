@@ -1,6 +1,6 @@
 -- The workflow that a good request's bytes mean: numbers, and functions of numbers.
 use Prim.Native.Nat.{ℕ, _+_, _*_}
-use mathlib.Core.Bool.{Bool, true, false, cond, _&&_}
+use mathlib.Core.Bool.{cond, _&&_}
 use mathlib.Core.List.{List}
 use lib.Dec.{ltb}
 use Rattle.rules.specs.Fields.{P, T, W, E, size, P-price, W-minutes, E-from, E-to, E-transfer}
