@@ -6,8 +6,7 @@ use crate::build::Draft;
 pub struct Random(pub u64);
 
 impl Random {
-    #[allow(clippy::should_implement_trait)]
-    pub fn next(&mut self) -> u64 {
+    pub fn number(&mut self) -> u64 {
         self.0 ^= self.0 << 13;
         self.0 ^= self.0 >> 7;
         self.0 ^= self.0 << 17;
@@ -16,7 +15,7 @@ impl Random {
 
     /// Both ends are included.
     pub fn within(&mut self, low: u64, high: u64) -> u64 {
-        low + self.next() % (high - low + 1)
+        low + self.number() % (high - low + 1)
     }
 
     pub fn one_in(&mut self, count: u64) -> bool {
@@ -94,7 +93,7 @@ pub fn draft(random: &mut Random, limits: &Limits) -> Draft {
 pub fn damage(random: &mut Random, request: &mut Vec<u8>) {
     for _ in 0..random.within(1, 3) {
         let at = random.within(0, request.len() as u64) as usize;
-        let byte = random.next() as u8;
+        let byte = random.number() as u8;
         match random.within(1, 5) {
             1 => request.truncate(at),
             2 => request.insert(at, byte),

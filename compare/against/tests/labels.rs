@@ -1,20 +1,13 @@
 //! The exported label checks against plain Rust: every byte, random fields, every offset of short slices.
 use against::{label_len, listed, plain};
+use compare::random::Random;
 
-/// A fixed sequence of numbers (xorshift), so that a failure comes back in every run.
-struct Numbers(u64);
+fn below(random: &mut Random, n: usize) -> usize {
+    random.within(0, n as u64 - 1) as usize
+}
 
-impl Numbers {
-    fn below(&mut self, n: usize) -> usize {
-        self.0 ^= self.0 << 13;
-        self.0 ^= self.0 >> 7;
-        self.0 ^= self.0 << 17;
-        (self.0 >> 11) as usize % n
-    }
-
-    fn of(&mut self, bytes: &[u8]) -> u8 {
-        bytes[self.below(bytes.len())]
-    }
+fn one_of(random: &mut Random, bytes: &[u8]) -> u8 {
+    bytes[below(random, bytes.len())]
 }
 
 /// The bytes of the list, and those that are neither listed nor a space.
@@ -32,23 +25,23 @@ fn every_byte_is_listed_as_the_ranges_say() {
 
 #[test]
 fn random_fields_have_the_length_of_the_plain_check() {
-    let mut numbers = Numbers(0x5eed_1abe_1000_0001);
+    let mut random = Random(0x5eed_1abe_1000_0001);
     let (on, off) = on_and_off_the_list();
     let mut of_length = [0; 9];
     let (mut empty, mut space_inside, mut off_the_list) = (0, 0, 0);
     for _ in 0..400_000 {
         // A label of `len` bytes; then, half of the time, one byte is overwritten, which may break it.
-        let len = numbers.below(9);
+        let len = below(&mut random, 9);
         let mut field = [b' '; 8];
         for b in &mut field[..len] {
-            *b = numbers.of(&on);
+            *b = one_of(&mut random, &on);
         }
-        let overwritten = numbers.below(2) == 1;
+        let overwritten = below(&mut random, 2) == 1;
         if overwritten {
-            field[numbers.below(8)] = match numbers.below(3) {
+            field[below(&mut random, 8)] = match below(&mut random, 3) {
                 0 => b' ',
-                1 => numbers.of(&on),
-                _ => numbers.of(&off),
+                1 => one_of(&mut random, &on),
+                _ => one_of(&mut random, &off),
             };
         }
         let ours = label_len(&field, 0);
@@ -57,18 +50,12 @@ fn random_fields_have_the_length_of_the_plain_check() {
             assert_eq!(ours, len, "field {field:?}");
         }
         of_length[ours] += 1;
-        let ends = field
-            .iter()
-            .rposition(|&b| b != b' ')
-            .map_or(0, |last| last + 1);
+        let ends = field.iter().rposition(|&b| b != b' ').map_or(0, |last| last + 1);
         empty += usize::from(ends == 0);
         space_inside += usize::from(field[..ends].contains(&b' '));
         off_the_list += usize::from(field.iter().any(|b| off.contains(b)));
     }
-    for seen in of_length
-        .into_iter()
-        .chain([empty, space_inside, off_the_list])
-    {
+    for seen in of_length.into_iter().chain([empty, space_inside, off_the_list]) {
         assert!(
             seen > 10_000,
             "lengths {of_length:?}, empty {empty}, space inside {space_inside}, off the list {off_the_list}"
@@ -78,41 +65,28 @@ fn random_fields_have_the_length_of_the_plain_check() {
 
 #[test]
 fn every_offset_of_short_slices_agrees() {
-    let mut numbers = Numbers(0x5eed_1abe_1000_0002);
+    let mut random = Random(0x5eed_1abe_1000_0002);
     let (on, off) = on_and_off_the_list();
     let mut of_length = [0; 9];
     for len in 0..=20 {
         for _ in 0..2_000 {
             // Mostly listed bytes or mostly spaces, so that labels of every length stand at some offset.
-            let spaces = 1 + numbers.below(8);
+            let spaces = 1 + below(&mut random, 8);
             let bytes: Vec<u8> = (0..len)
-                .map(|_| match numbers.below(40) {
-                    0 => numbers.of(&off),
+                .map(|_| match below(&mut random, 40) {
+                    0 => one_of(&mut random, &off),
                     k if k <= 4 * spaces => b' ',
-                    _ => numbers.of(&on),
+                    _ => one_of(&mut random, &on),
                 })
                 .collect();
-            let far = [
-                usize::MAX / 2,
-                usize::MAX - 8,
-                usize::MAX - 7,
-                usize::MAX - 1,
-                usize::MAX,
-            ];
+            let far = [usize::MAX / 2, usize::MAX - 8, usize::MAX - 7, usize::MAX - 1, usize::MAX];
             for at in (0..=len + 9).chain(far) {
                 let ours = label_len(&bytes, at);
-                assert_eq!(
-                    ours,
-                    plain::label_len(&bytes, at),
-                    "bytes {bytes:?} at {at}"
-                );
+                assert_eq!(ours, plain::label_len(&bytes, at), "bytes {bytes:?} at {at}");
                 assert!(ours == 0 || at + 8 <= len, "bytes {bytes:?} at {at}");
                 of_length[ours] += 1;
             }
         }
     }
-    assert!(
-        of_length.into_iter().all(|seen| seen > 100),
-        "lengths {of_length:?}"
-    );
+    assert!(of_length.into_iter().all(|seen| seen > 100), "lengths {of_length:?}");
 }

@@ -21,6 +21,7 @@ use Rattle.rules.specs.Method.{best, may-be-taken, latest-finish, B, F, 
 use Rattle.rules.specs.Rows.{Row, row-of, is-placed, busy, spent, length-of}
 use Rattle.rules.specs.Placing.{ready-for, start-of, finish-of, RB, RCB, question, row-on, put, place-next, place}
 use Rattle.rules.specs.Answer.{Answer, refused, refuse, too-late, placed-outcome, outcome-by, outcome-read, outcome, answer-of, answer, written, rows-after}
+use Rattle.rules.specs.Multiplied.{multiplied-deadline, multiplied}
 use Rattle.rules.specs.Text.{bytes, digits, decimal, line, first-line, row-line, lines, row-lines, text}
 
 -- A number below 65,536 in two bytes, and in four.
@@ -102,6 +103,15 @@ given c = record { answer = answer (c .input) (length (c .lent)); rows = rows-af
 abbrev pub All-given : List Case → Type 0
 All-given [] = Unit {0}
 All-given (c ∷ cases) = (given c ≡ c .due) × All-given cases
+
+-- The answer for a request whose workflow is multiplied after reading, with 64 rows lent; a refusal in reading stays.
+unfoldable pub multiplied-in : ℕ → ℕ → List ℕ → Read Request → Answer
+multiplied-in a b s (read next r) = answer-of (outcome-by HBCS (multiplied a b (workflow s r)) 64)
+multiplied-in a b s (stopped number place) = refused number place
+
+unfoldable pub answer-multiplied : ℕ → ℕ → List ℕ → Answer
+unfolding given multiplied-deadline multiplied multiplied-in
+answer-multiplied a b s = multiplied-in a b s (read-request s)
 
 -- The ranks of a request's tasks; none where it is refused in reading.
 unfoldable pub ranks-in : List ℕ → Read Request → List ℕ

@@ -40,12 +40,12 @@ equal-finishes : List ℕ
 equal-finishes =
     H-record 1 2 50 ++ P-record 0 2 ++ P-record 1 1 ++ T-record 0 "one     " ++ W-record 0 0 10 ++ W-record 0 1 10 ++ bytes "Z"
 
--- Two tasks of equal R on one processor: the lower number first.
-pub equal-ranks : List ℕ
-equal-ranks =
-    H-record 2 1 50 ++ P-record 0 1 ++ T-record 0 "one     " ++ W-record 0 0 3 ++ T-record 1 "two     " ++ W-record 1 0 3 ++ bytes "Z"
+-- Two tasks of 3 minutes on one processor, with these edges. Without any, their R are equal.
+pub two-tasks : List ℕ → List ℕ
+two-tasks edges =
+    H-record 2 1 50 ++ P-record 0 1 ++ T-record 0 "one     " ++ W-record 0 0 3 ++ T-record 1 "two     " ++ W-record 1 0 3 ++ edges ++ bytes "Z"
 
--- One task on two processors, with a `D` before the first `P`, and another after it or straight after itself.
+-- One task on two processors, with what stands before the first `P` and after it.
 deadlines : List ℕ → List ℕ → List ℕ
 deadlines before after =
     H-record 1 2 9
@@ -58,36 +58,31 @@ deadlines before after =
     ++ W-record 0 1 3
     ++ bytes "Z"
 
--- Two tasks on one processor, with these edges.
-with-edges : List ℕ → List ℕ
-with-edges edges =
-    H-record 2 1 50 ++ P-record 0 1 ++ T-record 0 "one     " ++ W-record 0 0 3 ++ T-record 1 "two     " ++ W-record 1 0 3 ++ edges ++ bytes "Z"
-
 pub corners : List Case
 corners =
     planned-case (near-means 1) (planned 2 1 2 8) (row 1 0 1 1 ∷ row 0 0 1 1 ∷ [])
     ∷ planned-case (near-means 2) (planned 2 2 4 16) (row 1 0 2 2 ∷ row 0 0 2 2 ∷ [])
     ∷ planned-case best-past-budget (planned 1 10 20 30) (row 0 0 10 20 ∷ [])
     ∷ planned-case equal-finishes (planned 1 10 10 40) (row 1 0 10 10 ∷ [])
-    ∷ planned-case equal-ranks (planned 2 6 6 44) (row 0 0 3 3 ∷ row 0 3 6 3 ∷ [])
+    ∷ planned-case (two-tasks []) (planned 2 6 6 44) (row 0 0 3 3 ∷ row 0 3 6 3 ∷ [])
     ∷ planned-case (deadlines (D-record 3) []) (planned 1 3 3 6) (row 0 0 3 3 ∷ [])
     ∷ refused-case (deadlines [] (D-record 3)) 2 10
     ∷ refused-case (deadlines (D-record 3 ++ D-record 3) []) 2 12
-    ∷ refused-case (with-edges (E-record 0 1 5 ++ E-record 0 0 5)) 3 45
-    ∷ refused-case (with-edges (E-record 1 0 5 ++ E-record 0 9 5)) 3 45
-    ∷ refused-case (with-edges (E-record 0 1 1_001)) 4 40
+    ∷ refused-case (two-tasks (E-record 0 1 5 ++ E-record 0 0 5)) 3 45
+    ∷ refused-case (two-tasks (E-record 1 0 5 ++ E-record 0 9 5)) 3 45
+    ∷ refused-case (two-tasks (E-record 0 1 1_001)) 4 40
     ∷ []
 
 pub in-corners : All-given corners
-unfolding given near-means best-past-budget equal-finishes equal-ranks deadlines with-edges corners
+unfolding given near-means best-past-budget equal-finishes two-tasks deadlines corners
 in-corners = (refl, (refl, (refl, (refl, (refl, (refl, (refl, (refl, (refl, (refl, (refl, tt)))))))))))
 
 -- The label lookup: a task's label, the last task's, a task that is not there, and a request refused in reading.
 pub looked-up :
-    (label equal-ranks 1 ≡ bytes "two")
-    × (label-lookup equal-ranks 0 ≡ record { begin = 12; length = 3 })
-    × (label-lookup equal-ranks 1 ≡ record { begin = 27; length = 3 })
-    × (label-lookup equal-ranks 2 ≡ empty-start)
-    × (label-lookup (take 40 equal-ranks) 0 ≡ empty-start)
-unfolding given equal-ranks
+    (label (two-tasks []) 1 ≡ bytes "two")
+    × (label-lookup (two-tasks []) 0 ≡ record { begin = 12; length = 3 })
+    × (label-lookup (two-tasks []) 1 ≡ record { begin = 27; length = 3 })
+    × (label-lookup (two-tasks []) 2 ≡ empty-start)
+    × (label-lookup (take 40 (two-tasks [])) 0 ≡ empty-start)
+unfolding given two-tasks
 looked-up = (refl, refl, refl, refl, refl)

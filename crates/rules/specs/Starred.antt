@@ -2,13 +2,14 @@
 use Prim.Native.Nat.{ℕ, _*_}
 use Prim.Native.String.{String}
 use mathlib.Core.Path.{_≡_, refl}
-use mathlib.Core.List.{List, [], _∷_, _++_}
+use mathlib.Core.List.{List, [], _∷_, _++_, map}
 use lib.ListN.{length, take, drop}
-use Rattle.rules.specs.Answer.{planned, refused, answer}
-use Rattle.rules.specs.Multiplied.{multiplied-place, multiplied-answer}
+use Rattle.rules.specs.Rows.{Row}
+use Rattle.rules.specs.Answer.{planned, refused, answer, rows-after}
+use Rattle.rules.specs.Multiplied.{multiplied-row, multiplied-place, multiplied-answer}
 use Rattle.rules.specs.Text.{bytes, program}
 use Rattle.rules.specs.Cases.{H-record, D-record, P-record, T-record, W-record, E-record, row, four-rows, Case, refused-case, planned-case}
-use Rattle.rules.specs.Cases.{given, All-given, ranks-in, ranks}
+use Rattle.rules.specs.Cases.{given, All-given, answer-multiplied, ranks-in, ranks}
 
 -- "Sample S(budget): n 3, m 2, no `D`; prices 1 and 3; minutes prep 10, 4; left 8, 4; right 6, 2; edges 0 to 1 transfer 2, 0 to 2 transfer 3."
 -- Times are multiplied by a, prices by b; some cases have another first label, a `D`, or an edge more.
@@ -73,11 +74,24 @@ pub printed :
 unfolding given sample S program
 printed = (refl, refl)
 
--- Times by 3 and prices by 2: the plan of S(28), and the places of refusals 9, 11 and 8.
+-- Three rows of zeros lent, which are the same multiplied.
+abbrev pub blank-rows : List Row
+blank-rows = row 0 0 0 0 ∷ row 0 0 0 0 ∷ row 0 0 0 0 ∷ []
+
+-- A request, and one with its times by 3 and its prices by 2: what the multiplied workflow is answered is what the second request is answered, and that is the
+-- first's answer multiplied; so are the rows.
+abbrev pub Tripled : List ℕ → List ℕ → Type 0
+Tripled once thrice =
+    (answer-multiplied 3 2 once ≡ answer thrice 64)
+    × (answer thrice 64 ≡ multiplied-answer 3 2 (answer once 64))
+    × (rows-after thrice blank-rows ≡ map (multiplied-row 3 2) (rows-after once blank-rows))
+
+-- The plan of S(28), refusals 9, 11 and 8, and the plan that is just in time.
 pub sample-multiplied :
-    (answer (sample 3 2 168 "prep    " [] []) 64 ≡ multiplied-answer 3 2 (answer (S 28) 64))
-    × (answer (sample 3 2 138 "prep    " [] []) 64 ≡ multiplied-answer 3 2 (answer (S 23) 64))
-    × (answer (sample 3 2 168 "prep    " (D-record 39) []) 64 ≡ multiplied-answer 3 2 (answer (sample 1 1 28 "prep    " (D-record 13) []) 64))
-    × (answer (sample 3 2 168 "prep    " [] (E-record 1 0 0)) 64 ≡ multiplied-answer 3 2 (answer (sample 1 1 28 "prep    " [] (E-record 1 0 0)) 64))
-unfolding given sample S multiplied-place multiplied-answer
-sample-multiplied = (refl, refl, refl, refl)
+    Tripled (S 28) (sample 3 2 168 "prep    " [] [])
+    × Tripled (S 23) (sample 3 2 138 "prep    " [] [])
+    × Tripled (sample 1 1 28 "prep    " (D-record 13) []) (sample 3 2 168 "prep    " (D-record 39) [])
+    × Tripled (sample 1 1 28 "prep    " [] (E-record 1 0 0)) (sample 3 2 168 "prep    " [] (E-record 1 0 0))
+    × Tripled (sample 1 1 28 "prep    " (D-record 14) []) (sample 3 2 168 "prep    " (D-record 42) [])
+unfolding given sample S answer-multiplied multiplied-place multiplied-answer multiplied-row
+sample-multiplied = ((refl, refl, refl), (refl, refl, refl), (refl, refl, refl), (refl, refl, refl), (refl, refl, refl))

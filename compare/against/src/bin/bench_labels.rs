@@ -13,13 +13,15 @@ fn fields(len: usize) -> Vec<u8> {
     (0..LABELS)
         .flat_map(|label| {
             let list = &list;
-            (0..8).map(move |k| {
-                if k < len {
-                    list[(label * 29 + k * 13) % list.len()]
-                } else {
-                    b' '
-                }
-            })
+            (0..8).map(
+                move |k| {
+                    if k < len {
+                        list[(label * 29 + k * 13) % list.len()]
+                    } else {
+                        b' '
+                    }
+                },
+            )
         })
         .collect()
 }
