@@ -4,7 +4,6 @@ use Prim.Native.String.{String}
 use mathlib.Core.Path.{_≡_, refl}
 use mathlib.Core.List.{List, [], _∷_, _++_, map}
 use lib.ListN.{length, take, drop}
-use Rattle.rules.specs.Rows.{Row}
 use Rattle.rules.specs.Answer.{planned, refused, answer, rows-after}
 use Rattle.rules.specs.Multiplied.{multiplied-row, multiplied-place, multiplied-answer}
 use Rattle.rules.specs.Text.{bytes, program}
@@ -74,24 +73,17 @@ pub printed :
 unfolding given sample S program
 printed = (refl, refl)
 
--- Three rows of zeros lent, which are the same multiplied.
-abbrev pub blank-rows : List Row
-blank-rows = row 0 0 0 0 ∷ row 0 0 0 0 ∷ row 0 0 0 0 ∷ []
-
--- A request, and one with its times by 3 and its prices by 2: what the multiplied workflow is answered is what the second request is answered, and that is the
--- first's answer multiplied; so are the rows.
+-- A request, and one with its times by 3 and its prices by 2: the second's answer is the first's multiplied.
 abbrev pub Tripled : List ℕ → List ℕ → Type 0
-Tripled once thrice =
-    (answer-multiplied 3 2 once ≡ answer thrice 64)
-    × (answer thrice 64 ≡ multiplied-answer 3 2 (answer once 64))
-    × (rows-after thrice blank-rows ≡ map (multiplied-row 3 2) (rows-after once blank-rows))
+Tripled once thrice = answer thrice 64 ≡ multiplied-answer 3 2 (answer once 64)
 
--- The plan of S(28), refusals 9, 11 and 8, and the plan that is just in time.
+-- Refusals 9, 11 and 8; the plan, with its rows; and the plan of the multiplied workflow, with a deadline that it just keeps.
 pub sample-multiplied :
-    Tripled (S 28) (sample 3 2 168 "prep    " [] [])
-    × Tripled (S 23) (sample 3 2 138 "prep    " [] [])
+    Tripled (S 23) (sample 3 2 138 "prep    " [] [])
     × Tripled (sample 1 1 28 "prep    " (D-record 13) []) (sample 3 2 168 "prep    " (D-record 39) [])
     × Tripled (sample 1 1 28 "prep    " [] (E-record 1 0 0)) (sample 3 2 168 "prep    " [] (E-record 1 0 0))
-    × Tripled (sample 1 1 28 "prep    " (D-record 14) []) (sample 3 2 168 "prep    " (D-record 42) [])
+    × Tripled (S 28) (sample 3 2 168 "prep    " [] [])
+    × (rows-after (sample 3 2 168 "prep    " [] []) (take 3 four-rows) ≡ map (multiplied-row 3 2) (rows-after (S 28) (take 3 four-rows)))
+    × (answer-multiplied 3 2 (sample 1 1 28 "prep    " (D-record 14) []) ≡ planned 3 42 156 12)
 unfolding given sample S answer-multiplied multiplied-place multiplied-answer multiplied-row
-sample-multiplied = ((refl, refl, refl), (refl, refl, refl), (refl, refl, refl), (refl, refl, refl), (refl, refl, refl))
+sample-multiplied = (refl, refl, refl, refl, refl, refl)
