@@ -1,0 +1,45 @@
+-- What "a good request, one not refused with 1 to 6" is, said of its bytes: numbers in their ranges, and records where their places say.
+use mathlib.Core.Path.{_≡_}
+use Prim.Native.Nat.{ℕ, _+_, _<_, _≤_}
+use mathlib.Core.List.{List}
+use lib.ListN.{length}
+use Rattle.label.specs.Label.{Label}
+use Rattle.label.specs.Length.{label-length}
+use Rattle.rules.specs.Fields.{Z, size, P-price, W-minutes, E-from, E-to, E-transfer}
+use Rattle.rules.specs.Reading.{by, Request}
+use Rattle.rules.specs.Workflow.{price-place, task-place, minutes-place, edge-place}
+use Rattle.rules.specs.Labels.{label-place}
+
+-- x is from low to high.
+pub record Between (low x high : ℕ) : Type 0 where
+  pub from-low : low ≤ x
+  pub to-high : x ≤ high
+
+-- "edge ends below n and unequal", "transfer 0..1,000", in the record of an edge at `at`.
+pub record GoodEdge (s : List ℕ) (n at : ℕ) : Type 0 where
+  pub from-below : E-from s at < n
+  pub to-below : E-to s at < n
+  pub unequal : E-from s at ≡ E-to s at → ⊥
+  pub transfer-in : E-transfer s at ≤ 1_000
+
+-- "each pair (from, to) greater than the one before, by from first and then to": of the edge records at `at` and at `next`.
+pub record Rising (s : List ℕ) (at next : ℕ) : Type 0 where
+  pub by-from : E-from s at ≤ E-from s next
+  pub then-to : E-from s at ≡ E-from s next → E-to s at < E-to s next
+
+-- A request read from s: its numbers, where its parts stand, and what each record holds. The parts fill s to its end.
+pub record Good (s : List ℕ) (r : Request) : Type 0 where
+  pub tasks-in : Between 1 (r .tasks) 64
+  pub processors-in : Between 1 (r .processors) 16
+  pub budget-in : r .budget ≤ 20_000_000
+  pub deadline-in : (d : ℕ) → r .deadline ≡ by d → Between 1 d 200_000
+  pub edges-in : r .edges ≤ 512
+  pub prices-begin : Between 7 (r .prices-at) 12
+  pub tasks-begin : r .tasks-at ≡ price-place r (r .processors)
+  pub edges-begin : r .edges-at ≡ task-place r (r .tasks)
+  pub ends : length s ≡ edge-place r (r .edges) + size Z
+  pub price-in : (j : ℕ) → j < r .processors → P-price s (price-place r j) ≤ 100
+  pub labelled : (i : ℕ) → i < r .tasks → Label s (label-place r i) (label-length s (label-place r i))
+  pub minutes-in : (i j : ℕ) → i < r .tasks → j < r .processors → Between 1 (W-minutes s (minutes-place r i j)) 2_000
+  pub edge-in : (e : ℕ) → e < r .edges → GoodEdge s (r .tasks) (edge-place r e)
+  pub rises : (e : ℕ) → e + 1 < r .edges → Rising s (edge-place r e) (edge-place r (e + 1))

@@ -1,0 +1,58 @@
+-- Every record of a good request lies inside it, at the place that the rules compute; and there stands the number of its workflow.
+use mathlib.Core.Path.{_≡_}
+use Prim.Native.Nat.{ℕ, _+_, _*_, _<_, _≤_}
+use native.Mathlib.Nat.{suc-mul, mul-le-mul-right}
+use native.Mathlib.Omega.{arith}
+use mathlib.Core.List.{List}
+use lib.ListN.{length}
+use borrow.Author.Tests.{lt-ltb}
+use Rattle.rules.specs.Fields.{P, T, W, E, Z, size, body, P-price, W-minutes, E-from, E-to, E-transfer}
+use Rattle.rules.specs.Reading.{Request}
+use Rattle.rules.specs.Workflow.{price-place, task-place, minutes-place, edge-place, workflow}
+use Rattle.good.specs.Good.{Good}
+
+-- The i-th of n rows of k bytes each ends where they all do or before.
+row-inside : (i n k : ℕ) → i < n → i * k + k ≤ n * k
+row-inside i n k h = rw (← suc-mul i k) (mul-le-mul-right k h)
+
+module _ (s : List ℕ) (r : Request) (g : Good s r) where
+  edges-inside : r .edges-at ≤ length s
+  unfolding edge-place size body
+  edges-inside = omega (arith, g .ends)
+
+  pub task-inside : (i : ℕ) → i < r .tasks → task-place r i + (size T + r .processors * size W) ≤ length s
+  unfolding task-place
+  task-inside i h = omega (arith, row-inside i (r .tasks) (size T + r .processors * size W) h, g .edges-begin, edges-inside)
+
+  pub price-inside : (j : ℕ) → j < r .processors → price-place r j + size P ≤ length s
+  unfolding price-place task-place
+  price-inside j h = omega (arith, row-inside j (r .processors) (size P) h, g .tasks-begin, g .edges-begin, edges-inside)
+
+  pub minutes-inside : (i j : ℕ) → i < r .tasks → j < r .processors → minutes-place r i j + size W ≤ length s
+  unfolding minutes-place
+  minutes-inside i j h h′ = omega (arith, row-inside j (r .processors) (size W) h′, task-inside i h)
+
+  pub edge-inside : (e : ℕ) → e < r .edges → edge-place r e + size E ≤ length s
+  unfolding edge-place
+  edge-inside e h = omega (arith, row-inside e (r .edges) (size E) h, g .ends)
+
+module _ (s : List ℕ) (r : Request) where
+  pub price-there : (j : ℕ) → j < r .processors → workflow s r .price j ≡ P-price s (price-place r j)
+  unfolding workflow
+  price-there j h = rw (lt-ltb _ _ h)
+
+  pub minutes-there : (i j : ℕ) → i < r .tasks → j < r .processors → workflow s r .minutes i j ≡ W-minutes s (minutes-place r i j)
+  unfolding workflow
+  minutes-there i j h h′ = rw (lt-ltb _ _ h, lt-ltb _ _ h′)
+
+  pub from-there : (e : ℕ) → e < r .edges → workflow s r .from e ≡ E-from s (edge-place r e)
+  unfolding workflow
+  from-there e h = rw (lt-ltb _ _ h)
+
+  pub to-there : (e : ℕ) → e < r .edges → workflow s r .to e ≡ E-to s (edge-place r e)
+  unfolding workflow
+  to-there e h = rw (lt-ltb _ _ h)
+
+  pub transfer-there : (e : ℕ) → e < r .edges → workflow s r .transfer e ≡ E-transfer s (edge-place r e)
+  unfolding workflow
+  transfer-there e h = rw (lt-ltb _ _ h)

@@ -1,0 +1,15 @@
+pub mod Good
+pub mod Ranges
+pub mod Records
+pub mod Reading
+pub mod Kinds
+pub mod Edges
+pub mod Parts
+pub mod ReadIsGood
+pub mod RangeLaws
+pub mod Labels
+pub mod Inside
+pub mod Agree
+pub mod AgreeParts
+pub mod First
+pub mod Program

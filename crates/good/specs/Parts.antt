@@ -1,0 +1,95 @@
+-- The parts of a request that were read, each record at its place: prices, tasks with their minutes, and the deadline.
+use mathlib.Core.Path.{_≡_}
+use Prim.Native.Nat.{ℕ, _+_, _*_, _<_, _≤_}
+use native.Mathlib.Omega.{arith}
+use mathlib.Core.Bool.{Bool, true, false, cond}
+use mathlib.Core.List.{List}
+use lib.Dec.{eqb}
+use Rattle.label.specs.Label.{Label}
+use Rattle.label.specs.Length.{label-length}
+use Rattle.rules.specs.Fields.{D, P, T, W, size, kind-byte, byte, D-deadline, P-price, T-label, W-minutes}
+use Rattle.rules.specs.Records.{read, deadline-at, price-at, minutes-at}
+use Rattle.rules.specs.Reading.{then, Deadline, no-deadline, by, deadline-part, prices-part, task-part, tasks-part}
+use Rattle.good.specs.Good.{Between}
+use Rattle.good.specs.Reading.{then-read, Steps, each-ends, each-part}
+use Rattle.good.specs.Kinds.{deadline-read, price-read, task-read, minutes-read}
+
+pub price-steps : (s : List ℕ) → Steps (price-at s) (size P)
+price-steps s at j next a e = price-read s at j e .0
+
+pub minutes-steps : (s : List ℕ) (i : ℕ) → Steps (λ at j. minutes-at s at i j) (size W)
+minutes-steps s i at j next a e = minutes-read s at i j e .0
+
+-- A task's records, `T` and then its `W`s, begin at `at`.
+pub record TaskRead (s : List ℕ) (m at next : ℕ) : Type 0 where
+  pub ends : next ≡ at + (size T + m * size W)
+  pub labelled : Label s (T-label at) (label-length s (T-label at))
+  pub minutes-in : (j : ℕ) → j < m → Between 1 (W-minutes s (at + (size T + j * size W))) 2_000
+
+task-part-read : (s : List ℕ) (m at i : ℕ) {next : ℕ} → task-part s m at i ≡ read next tt → TaskRead s m at next
+unfolding task-part
+task-part-read s m at i {next} e =
+    let (place, was, first, rest) = then-read _ _ e in
+    let (ends, labelled) = task-read s at i first in
+    let steps = minutes-steps s i in
+    record {
+      ends = omega (arith, each-ends _ _ steps place m rest);
+      labelled = labelled;
+      minutes-in =
+          λ j h.
+          let (after, was, here) = each-part _ _ steps place m rest j h in
+          let there : at + (size T + j * size W) ≡ place + j * size W = omega arith in
+          rw there (minutes-read s _ i j here .1);
+    }
+
+pub task-steps : (s : List ℕ) (m : ℕ) → Steps (task-part s m) (size T + m * size W)
+task-steps s m at i next a e = task-part-read s m at i e .ends
+
+-- The deadline, or none, was read, and the prices begin at `next`.
+pub record DeadlineRead (at next : ℕ) (d : Deadline) : Type 0 where
+  pub begins : at ≤ next
+  pub ends : next ≤ at + size D
+  pub deadline-in : (x : ℕ) → d ≡ by x → Between 1 x 200_000
+
+pub deadline-part-read : (s : List ℕ) (at : ℕ) {next : ℕ} {d : Deadline} → deadline-part s at ≡ read next d → DeadlineRead at next d
+unfolding deadline-part
+deadline-part-read s at {next} {d} e = go (eqb (byte s at) (kind-byte D)) e
+  where
+    go : (t : Bool) → cond t (then (deadline-at s at) (λ next _. read next (by (D-deadline s at)))) (read at no-deadline) ≡ read next d →
+        DeadlineRead at next d
+    go true p =
+        let (place, was, here, done) = then-read _ _ p in
+        let (ends, deadline-in) = deadline-read s at here in
+        let same : place ≡ next = cc in
+        record {
+          begins = omega arith;
+          ends = omega arith;
+          deadline-in =
+              λ x is.
+              let given : D-deadline s at ≡ x = cc in
+              rw given at deadline-in;
+        }
+    go false p =
+        let same : at ≡ next = cc in
+        record {
+          begins = omega arith;
+          ends = omega arith;
+          deadline-in = λ x is. let z : _≡_ {A = ℕ} 0 1 = cc in absurd (omega arith);
+        }
+
+pub prices-read : (s : List ℕ) (m at : ℕ) {next : ℕ} → prices-part s m at ≡ read next tt →
+    (next ≡ at + m * size P) × ((j : ℕ) → j < m → P-price s (at + j * size P) ≤ 100)
+unfolding prices-part
+prices-read s m at e = (
+  each-ends _ _ (price-steps s) at m e,
+  λ j h. let (after, was, here) = each-part _ _ (price-steps s) at m e j h in price-read s _ j here .1,
+)
+
+pub tasks-read : (s : List ℕ) (n m at : ℕ) {next : ℕ} → tasks-part s n m at ≡ read next tt →
+    (next ≡ at + n * (size T + m * size W))
+    × ((i : ℕ) → i < n → (after : ℕ) × TaskRead s m (at + i * (size T + m * size W)) after)
+unfolding tasks-part
+tasks-read s n m at e = (
+  each-ends _ _ (task-steps s m) at n e,
+  λ i h. let (after, was, here) = each-part _ _ (task-steps s m) at n e i h in (after, task-part-read s m _ i here),
+)

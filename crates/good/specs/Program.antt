@@ -1,0 +1,58 @@
+-- "reads at most 16,384 bytes from standard input; by the size limit its answer is that of the whole input": a good request is no longer
+-- than that, and of a refused one everything here is decided by number and place.
+use mathlib.Core.Path.{_≡_, refl, ap, _∙_}
+use Prim.Native.Nat.{ℕ}
+use native.Mathlib.Omega.{arith}
+use mathlib.Core.List.{List}
+use lib.ListN.{take}
+use lib.Seq.{take-all}
+use Rattle.rules.specs.Records.{Read, read, stopped}
+use Rattle.rules.specs.Reading.{Request, read-request}
+use Rattle.rules.specs.Labels.{part-of, label-lookup, label}
+use Rattle.rules.specs.Rows.{Row}
+use Rattle.rules.specs.Answer.{refusal, outcome-read, outcome, answer-of, answer, rows-after}
+use Rattle.rules.specs.Text.{row-lines, text, program}
+use Rattle.good.specs.ReadIsGood.{read-is-good}
+use Rattle.good.specs.RangeLaws.{good-length}
+use Rattle.good.specs.Labels.{no-label-refused}
+use Rattle.good.specs.First.{read-first}
+
+-- Of an input refused in reading, f depends on number and place alone.
+abbrev ByRefusal : {A : Type 0} → (List ℕ → A) → Type 0
+ByRefusal f =
+    (s t : List ℕ) (number place : ℕ) → read-request s ≡ stopped number place → read-request t ≡ stopped number place → f s ≡ f t
+
+first-alike : {A : Type 0} (f : List ℕ → A) → ByRefusal f → (s : List ℕ) → f (take 16_384 s) ≡ f s
+first-alike f refused s = go (read-request s) refl
+  where
+    go : (x : Read Request) → read-request s ≡ x → f (take 16_384 s) ≡ f s
+    go (read end r) e = ap f (take-all 16_384 s (omega (arith, good-length s r (read-is-good s e))))
+    go (stopped number place) e = refused (take 16_384 s) s number place (read-first s ∙ e) e
+
+refused-outcome : (s : List ℕ) (lent : ℕ) {number place : ℕ} →
+    read-request s ≡ stopped number place → outcome s lent ≡ refusal number place
+unfolding outcome outcome-read
+refused-outcome s lent e = rw e
+
+pub outcome-first : (s : List ℕ) (lent : ℕ) → outcome (take 16_384 s) lent ≡ outcome s lent
+outcome-first s lent = first-alike (λ x. outcome x lent) (λ s t number place e e′. rw (refused-outcome s lent e, refused-outcome t lent e′)) s
+
+pub answer-first : (s : List ℕ) (lent : ℕ) → answer (take 16_384 s) lent ≡ answer s lent
+unfolding answer
+answer-first s lent = ap answer-of (outcome-first s lent)
+
+pub rows-after-first : (s : List ℕ) (lent : List Row) → rows-after (take 16_384 s) lent ≡ rows-after s lent
+unfolding rows-after
+rows-after-first s lent = rw outcome-first
+
+pub label-lookup-first : (s : List ℕ) (i : ℕ) → label-lookup (take 16_384 s) i ≡ label-lookup s i
+label-lookup-first s i = first-alike (λ x. label-lookup x i) (λ s t number place e e′. rw (no-label-refused s i e, no-label-refused t i e′)) s
+
+pub label-first : (s : List ℕ) (i : ℕ) → label (take 16_384 s) i ≡ label s i
+unfolding label part-of
+label-first s i = first-alike (λ x. label x i) (λ s t number place e e′. rw (no-label-refused s i e, no-label-refused t i e′)) s
+
+pub program-is-text : (input : List ℕ) → program input ≡ text input
+unfolding program text answer row-lines
+program-is-text input =
+    first-alike text (λ s t number place e e′. rw (refused-outcome s 64 e, refused-outcome t 64 e′)) input

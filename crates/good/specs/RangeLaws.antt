@@ -1,0 +1,59 @@
+-- A good request means a workflow in range, and has at most 8,381 bytes.
+use mathlib.Core.Path.{_≡_, refl}
+use Prim.Native.Nat.{ℕ, _+_, _*_, _<_, _≤_}
+use native.Mathlib.Nat.{mul-le-mul}
+use native.Mathlib.Omega.{arith}
+use mathlib.Core.Bool.{Bool, true, false, cond, and-eq-true-iff}
+use mathlib.Core.List.{List}
+use lib.ListN.{length}
+use borrow.Author.Tests.{lt-ltb, ltb-true}
+use Rattle.rules.specs.Fields.{T, W, size, body}
+use Rattle.rules.specs.Reading.{Request}
+use Rattle.rules.specs.Workflow.{workflow, price-place, task-place, edge-place}
+use Rattle.good.specs.Good.{Good}
+use Rattle.good.specs.Ranges.{InRange}
+
+-- What is 0 out of range is at most what it is in range.
+or-zero-at-most : {x most : ℕ} (t : Bool) → (t ≡ true → x ≤ most) → cond t x 0 ≤ most
+or-zero-at-most true h = h refl
+or-zero-at-most false h = omega arith
+
+pub good-in-range : (s : List ℕ) (r : Request) → Good s r → InRange (workflow s r)
+unfolding workflow
+good-in-range s r g =
+    record {
+      tasks-in = g .tasks-in;
+      processors-in = g .processors-in;
+      budget-in = g .budget-in;
+      deadline-in = g .deadline-in;
+      edges-in = g .edges-in;
+      price-in = λ j. or-zero-at-most _ (λ below. g .price-in j (ltb-true _ _ below));
+      minutes-most =
+          λ i j.
+          or-zero-at-most _
+          (λ below.
+          let (i-below, j-below) = and-eq-true-iff _ _ .0 below in
+          g .minutes-in i j (ltb-true _ _ i-below) (ltb-true _ _ j-below) .to-high);
+      minutes-least = λ i j h h′. rw (lt-ltb i _ h, lt-ltb j _ h′) (g .minutes-in i j h h′ .from-low);
+      from-below = λ e h. rw (lt-ltb e _ h) (g .edge-in e h .from-below);
+      to-below = λ e h. rw (lt-ltb e _ h) (g .edge-in e h .to-below);
+      unequal = λ e h. rw (lt-ltb e _ h) (g .edge-in e h .unequal);
+      transfer-in = λ e. or-zero-at-most _ (λ below. g .edge-in e (ltb-true _ _ below) .transfer-in);
+      from-rises = λ e h. rw (lt-ltb e _ (before h), lt-ltb (e + 1) _ h) (g .rises e h .by-from);
+      to-rises = λ e h. rw (lt-ltb e _ (before h), lt-ltb (e + 1) _ h) (g .rises e h .then-to);
+    }
+  where
+    before : {e : ℕ} → e + 1 < r .edges → e < r .edges
+    before h = omega arith
+
+-- The records of all tasks take at most 64 times 90 bytes.
+pub tasks-at-most : {n m : ℕ} → n ≤ 64 → m ≤ 16 → n * (size T + m * size W) ≤ 5_760
+unfolding size body
+tasks-at-most {m} few narrow =
+    let a-task : 10 + m * 5 ≤ 90 = omega arith in
+    mul-le-mul few a-task
+
+-- "So a good request, one not refused with 1 to 6, has at most 8,381 bytes."
+pub good-length : (s : List ℕ) (r : Request) → Good s r → length s ≤ 8_381
+unfolding price-place task-place edge-place size body
+good-length s r g = omega (arith, tasks-at-most (g .tasks-in .to-high) (g .processors-in .to-high))

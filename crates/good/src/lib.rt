@@ -1,0 +1,1 @@
+// What a good request is, as laws of the definitions: no code, only specs/.
