@@ -1,0 +1,56 @@
+-- The record that was found is the one that was due: what the rules read at a place says which case of the code's record it is.
+use mathlib.Core.Path.{_≡_, refl, sym, _∙_, ap, subst}
+use Prim.Native.Nat.{ℕ}
+use mathlib.Core.List.{List}
+use denote.Enum.Declared.{tagOf}
+use types.Run.{OneOf}
+use Rattle.rules.specs.Fields.{H-tasks, H-processors, H-budget, D-deadline, E-from, E-to, E-transfer}
+use Rattle.rules.specs.Records.{read, header-at, deadline-at, Edges, edge-at, end-at}
+use Rattle.rules.specs.Records as rules
+use Rattle.good.specs.Records.{record-read}
+use Rattle.records.proofs.Record.{the-type}
+use Rattle.records.specs.declared.Record.{Record}
+use Rattle.records.specs.declared.Record.the-variants.{Header, Deadline, Price, Task, Minutes, Edge, End}
+use Rattle.records.specs.Meaning.{meant-record}
+
+-- The number by which the code tells a record's case.
+abbrev pub tag : rules.Record → ℕ
+tag (rules.header n m b) = 0
+tag (rules.deadline d) = 1
+tag (rules.price j p) = 2
+tag (rules.task i l) = 3
+tag (rules.minutes i j w) = 4
+tag (rules.edge i k w) = 5
+tag rules.end = 6
+
+tag-kept : (found : Record) → tagOf the-type found ≡ tag (meant-record found)
+tag-kept (Header n m b) = refl
+tag-kept (Deadline d) = refl
+tag-kept (Price j p) = refl
+tag-kept (Task i l) = refl
+tag-kept (Minutes i j w) = refl
+tag-kept (Edge i k w) = refl
+tag-kept End = refl
+
+-- The code has found one of these cases: so the record that was due is one of them.
+pub due-among : (cases : List ℕ) (found : Record) {due : rules.Record} →
+    meant-record found ≡ due → OneOf cases (tagOf the-type found) → OneOf cases (tag due)
+due-among cases found is told = subst (OneOf cases) (tag-kept found ∙ ap tag is) told
+
+module _ (s : List ℕ) (at : ℕ) {next : ℕ} {found : rules.Record} where
+  pub header-found : read next found ≡ header-at s at → found ≡ rules.header (H-tasks s at) (H-processors s at) (H-budget s at)
+  unfolding header-at
+  header-found e = record-read _ _ _ _ _ (sym e) .same
+
+  pub deadline-found : read next found ≡ deadline-at s at → found ≡ rules.deadline (D-deadline s at)
+  unfolding deadline-at
+  deadline-found e = record-read _ _ _ _ _ (sym e) .same
+
+  pub edge-found : (n : ℕ) (before : Edges) →
+      read next found ≡ edge-at s at n before → found ≡ rules.edge (E-from s at) (E-to s at) (E-transfer s at)
+  unfolding edge-at
+  edge-found n before e = record-read _ _ _ _ _ (sym e) .same
+
+  pub end-found : read next found ≡ end-at s at → found ≡ rules.end
+  unfolding end-at
+  end-found e = record-read _ _ _ _ _ (sym e) .same

@@ -1,0 +1,94 @@
+-- The loop has read the first j records of minutes, up to the cursor.
+use mathlib.Core.Path.{_≡_, refl}
+use Prim.Native.Nat.{_-_, _≤_}
+use Rattle.rules.specs.Records.{read, minutes-at}
+use Rattle.rules.specs.Reading.{each}
+use Rattle.reader.proofs.Laws.{record-more, record-refused, all-read}
+use borrow.Author.Needs.{needs}
+use native.Mathlib.Omega.{arith}
+use Rattle.reader.proofs.read_row.Statement.{statement}
+use Rattle.reader.proofs.read_row.Tie as tie
+use Rattle.reader.proofs.read_row.Reads as reads
+use Rattle.reader.proofs.read_row.Lts as lts
+use Rattle.reader.proofs.handed_up.Reads as handed-up-reads
+use Rattle.records.proofs.read_minutes.Reads as read-minutes-reads
+
+abbrev Inv-loop : tie.InvT-loop
+Inv-loop s task m next₀ j₀ next j = (each (λ at j. minutes-at s at task j) (next₀ .at) j ≡ read (next .at) tt) × (j ≤ m)
+
+abbrev μ-loop : tie.MeasureT-loop
+μ-loop s task m next₀ j₀ next j = m - j
+
+-- src/lib.rt:90:5
+loop-holds : tie.Need-loop-holds Inv-loop μ-loop
+unfolding each
+loop-holds c = (refl, omega arith)
+
+-- src/lib.rt:91:13
+read-minutes-requires : tie.Need-read-minutes-requires Inv-loop μ-loop
+read-minutes-requires c κs = search needs
+
+-- src/lib.rt:92:32
+enum-known-answer : tie.Need-enum-known-answer Inv-loop μ-loop
+enum-known-answer c = search needs
+
+-- src/lib.rt:93:13
+enum-told : tie.Need-enum-told Inv-loop μ-loop
+enum-told c = search needs
+
+-- src/lib.rt:93:13
+handed-up-requires : tie.Need-handed-up-requires Inv-loop μ-loop
+handed-up-requires c κs = search needs
+
+-- src/lib.rt:93:13
+returns : tie.Need-returns Inv-loop μ-loop
+returns c =
+    let a = c .before .before .before .before .before .before .before .args in
+    let loop = c .before .before .before .before .before .loop in
+    let loop-test = c .before .before .before .before .loop-test in
+    let read-minutes = c .before .before .before .read-minutes in
+    let enum-told = c .before .enum-told in
+    record-refused (λ at j. minutes-at (a .s .now) at (a .task) j) (a .c .at) (loop .j) (loop .next .at) (loop .inv .0)
+    (read-minutes .result) (read-minutes .ensures) _ (enum-told .given .1) (loop-test .taken) (c .handed-up .ensures)
+
+-- src/lib.rt:96:9
+add-j : tie.Need-add-j Inv-loop μ-loop
+add-j c = omega arith
+
+-- src/lib.rt:90:5
+loop-less : tie.Need-loop-less Inv-loop μ-loop
+loop-less c = omega arith
+
+-- src/lib.rt:90:5
+loop-again : tie.Need-loop-again Inv-loop μ-loop
+loop-again c =
+    let a = c .before .before .before .before .before .before .before .args in
+    let loop = c .before .before .before .before .before .loop in
+    let read-minutes = c .before .before .before .read-minutes in
+    let more = record-more (λ at j. minutes-at (a .s .now) at (a .task) j) (a .c .at) (loop .j) (loop .next .at) (loop .inv .0)
+    (read-minutes .result) (read-minutes .ensures) (c .before .answer .given .1) in
+    (more, omega arith)
+
+-- src/lib.rt:85:1
+returns-2 : tie.Need-returns-2 Inv-loop μ-loop
+returns-2 c =
+    let a = c .before .before .before .args in
+    let loop = c .before .loop in
+    all-read (λ at j. minutes-at (a .s .now) at (a .task) j) (a .c .at) (loop .j) (a .m) (loop .inv .0) (loop .inv .1) (c .loop-test .left)
+
+pub read-row-spec : {M : Type 1} → statement M
+read-row-spec =
+    tie.close
+    (tie.spec
+    Inv-loop
+    μ-loop
+    loop-holds
+    read-minutes-requires
+    enum-known-answer
+    enum-told
+    handed-up-requires
+    returns
+    add-j
+    loop-less
+    loop-again
+    returns-2)

@@ -1,0 +1,56 @@
+-- Two answers of reading with one meaning are one answer: the contract settles the view, or the refusal's number and place.
+use mathlib.Core.Path.{_≡_, refl, sym, _∙_, ap}
+use Prim.Native.Nat.{ℕ}
+use mathlib.Core.List.{List}
+use Rattle.rules.specs.Records.{Read, read, stopped}
+use Rattle.rules.specs.Reading as rules
+use Rattle.reader.specs.declared.Deadline.{Deadline}
+use Rattle.reader.specs.declared.Deadline.the-variants.{Without, By}
+use Rattle.reader.specs.declared.View.{View}
+use Rattle.reader.specs.declared.Reading.{Reading}
+use Rattle.reader.specs.declared.Reading.the-variants.{Good, Refused}
+use Rattle.reader.specs.Meaning.{meant-deadline, meant-reading}
+
+-- The deadline and the answer that mean this.
+deadline-for : rules.Deadline → Deadline
+deadline-for rules.no-deadline = Without
+deadline-for (rules.by minutes) = By minutes
+
+reading-for : Read rules.Request → Reading
+reading-for (read end r) =
+    Good
+    (record {
+      tasks = r .tasks;
+      processors = r .processors;
+      budget = r .budget;
+      deadline = deadline-for (r .deadline);
+      «prices_at» = r .prices-at;
+      «tasks_at» = r .tasks-at;
+      «edges_at» = r .edges-at;
+      edges = r .edges;
+    })
+reading-for (stopped number place) = Refused number place
+
+deadline-again : (d : Deadline) → deadline-for (meant-deadline d) ≡ d
+unfolding deadline-for
+deadline-again Without = refl
+deadline-again (By minutes) = refl
+
+reading-again : (s : List ℕ) (a : Reading) → reading-for (meant-reading s a) ≡ a
+unfolding reading-for
+reading-again s (Good v) =
+    λ i. Good
+    (record {
+      tasks = v .tasks;
+      processors = v .processors;
+      budget = v .budget;
+      deadline = deadline-again (v .deadline) i;
+      «prices_at» = v .«prices_at»;
+      «tasks_at» = v .«tasks_at»;
+      «edges_at» = v .«edges_at»;
+      edges = v .edges;
+    })
+reading-again s (Refused number place) = refl
+
+pub reading-settled : (s : List ℕ) (a b : Reading) → meant-reading s a ≡ meant-reading s b → a ≡ b
+reading-settled s a b same = sym (reading-again s a) ∙ ap reading-for same ∙ reading-again s b

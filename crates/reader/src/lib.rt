@@ -1,0 +1,254 @@
+// Reads a whole request: its records in order, each refusal handed straight up, and nothing after the last.
+ghost use mathlib.Core.Path.{_≡_};
+ghost use Rattle.rules.specs.Records.{minutes-at};
+ghost use Rattle.rules.specs.Reading.{each, deadline-part, prices-part, task-part, tasks-part, edges-part, read-request};
+ghost use Rattle.reader.specs.Meaning.{meant-part, meant-deadline, meant-reading, past, refusal-of};
+use records::Cursor;
+use records::Edges;
+use records::Record;
+use records::RecordAnswer;
+
+// A part of the request was read up to a cursor, or refused: number and place.
+pub enum Passed {
+    To(Cursor),
+    Refused(u64, usize),
+}
+
+// A record's refusal as that of its part.
+fn handed_up(answer: RecordAnswer) -> Passed
+    ensures { λ r. ⌜ r ≡ past answer ⌝ }
+{
+    match answer {
+        RecordAnswer::Read(next, _) => Passed::To(next),
+        RecordAnswer::Refused(number, place) => Passed::Refused(number, place),
+    }
+}
+
+// "No `D` means no deadline."
+pub enum Deadline {
+    Without,
+    By(u64),
+}
+
+pub struct DeadlinePart {
+    pub passed: Passed,
+    pub deadline: Deadline,
+}
+
+// After the header: a `D`, where one stands there.
+fn read_deadline(s: &[u8], c: Cursor) -> DeadlinePart
+    ensures { λ r. ⌜ meant-part (r .passed) (meant-deadline (r .deadline)) ≡ deadline-part (now (s .entry)) (c .at) ⌝ }
+{
+    if records::kind(s, c) != b'D' {
+        return DeadlinePart {
+            passed: Passed::To(c),
+            deadline: Deadline::Without,
+        };
+    }
+    let answer = records::read_deadline(s, c);
+    let RecordAnswer::Read(after, found) = answer else {
+        return DeadlinePart {
+            passed: handed_up(answer),
+            deadline: Deadline::Without,
+        };
+    };
+    let Record::Deadline { deadline } = found else {
+        return DeadlinePart {
+            passed: handed_up(answer),
+            deadline: Deadline::Without,
+        };
+    };
+    DeadlinePart {
+        passed: Passed::To(after),
+        deadline: Deadline::By(deadline),
+    }
+}
+
+// The prices of processors 0 to m - 1.
+fn read_prices(s: &[u8], c: Cursor, m: usize) -> Passed
+    ensures { λ r. ⌜ meant-part r tt ≡ prices-part (now (s .entry)) m (c .at) ⌝ }
+{
+    let mut next = c;
+    let mut j = 0;
+    while j < m {
+        let answer = records::read_price(s, next, j);
+        let RecordAnswer::Read(after, _) = answer else {
+            return handed_up(answer);
+        };
+        next = after;
+        j += 1;
+    }
+    Passed::To(next)
+}
+
+// The minutes of a task on processors 0 to m - 1.
+fn read_row(s: &[u8], c: Cursor, task: usize, m: usize) -> Passed
+    ensures { λ r. ⌜ meant-part r tt ≡ each (λ at j. minutes-at (now (s .entry)) at task j) (c .at) m ⌝ }
+{
+    let mut next = c;
+    let mut j = 0;
+    while j < m {
+        let answer = records::read_minutes(s, next, task, j);
+        let RecordAnswer::Read(after, _) = answer else {
+            return handed_up(answer);
+        };
+        next = after;
+        j += 1;
+    }
+    Passed::To(next)
+}
+
+// A task: its `T`, then its minutes.
+fn read_task(s: &[u8], c: Cursor, task: usize, m: usize) -> Passed
+    ensures { λ r. ⌜ meant-part r tt ≡ task-part (now (s .entry)) m (c .at) task ⌝ }
+{
+    let answer = records::read_task(s, c, task);
+    let RecordAnswer::Read(after, _) = answer else {
+        return handed_up(answer);
+    };
+    read_row(s, after, task, m)
+}
+
+// Tasks 0 to n - 1.
+fn read_tasks(s: &[u8], c: Cursor, n: usize, m: usize) -> Passed
+    ensures { λ r. ⌜ meant-part r tt ≡ tasks-part (now (s .entry)) n m (c .at) ⌝ }
+{
+    let mut next = c;
+    let mut i = 0;
+    while i < n {
+        let passed = read_task(s, next, i, m);
+        let Passed::To(after) = passed else {
+            return passed;
+        };
+        next = after;
+        i += 1;
+    }
+    Passed::To(next)
+}
+
+pub struct EdgesPart {
+    pub passed: Passed,
+    pub count: usize,
+}
+
+// Edges in rising order, at most 512, then `Z`: how many there are.
+fn read_edges(s: &[u8], c: Cursor, n: usize) -> EdgesPart
+    ensures { λ r. ⌜ meant-part (r .passed) (r .count) ≡ edges-part (now (s .entry)) n (c .at) (record { count = 0; from = 0; to = 0 }) 513 ⌝ }
+{
+    let mut next = c;
+    let mut before = Edges {
+        count: 0,
+        from: 0,
+        to: 0,
+    };
+    let mut left: usize = 513;
+    while 0 < left {
+        let answer = records::read_edge_or_end(s, next, n, before);
+        let RecordAnswer::Read(after, found) = answer else {
+            return EdgesPart {
+                passed: handed_up(answer),
+                count: 0,
+            };
+        };
+        let Record::Edge {
+            from,
+            to,
+            transfer: _,
+        } = found
+        else {
+            return EdgesPart {
+                passed: Passed::To(after),
+                count: before.count,
+            };
+        };
+        next = after;
+        before = Edges {
+            count: before.count + 1,
+            from,
+            to,
+        };
+        left -= 1;
+    }
+    EdgesPart {
+        passed: Passed::Refused(4, next.at),
+        count: 0,
+    }
+}
+
+// A good request: its numbers, and where its parts begin. Prices, minutes and edges are read where they stand.
+pub struct View {
+    pub tasks: usize,
+    pub processors: usize,
+    pub budget: u64,
+    pub deadline: Deadline,
+    pub prices_at: usize,
+    pub tasks_at: usize,
+    pub edges_at: usize,
+    pub edges: usize,
+}
+
+// A good request, or a refusal: its number, 1 to 6, and its place.
+pub enum Reading {
+    Good(View),
+    Refused(u64, usize),
+}
+
+// A part's refusal as the request's.
+fn refused(passed: Passed) -> Reading
+    ensures { λ r. ⌜ r ≡ refusal-of passed ⌝ }
+{
+    match passed {
+        Passed::To(next) => Reading::Refused(0, next.at),
+        Passed::Refused(number, place) => Reading::Refused(number, place),
+    }
+}
+
+// The request that these bytes are: a view of it where it is good, else the first fault.
+pub fn read_request(s: &[u8]) -> Reading
+    ensures { λ r. ⌜ meant-reading (now (s .entry)) r ≡ read-request (now (s .entry)) ⌝ }
+{
+    let answer = records::read_header(s, Cursor { at: 0 });
+    let RecordAnswer::Read(headed, found) = answer else {
+        return refused(handed_up(answer));
+    };
+    let Record::Header {
+        tasks,
+        processors,
+        budget,
+    } = found
+    else {
+        return refused(handed_up(answer));
+    };
+    let due = read_deadline(s, headed);
+    let dated = due.passed;
+    let deadline = due.deadline;
+    let Passed::To(prices) = dated else {
+        return refused(dated);
+    };
+    let priced = read_prices(s, prices, processors);
+    let Passed::To(first) = priced else {
+        return refused(priced);
+    };
+    let worked = read_tasks(s, first, tasks, processors);
+    let Passed::To(edges) = worked else {
+        return refused(worked);
+    };
+    let linked = read_edges(s, edges, tasks);
+    let closed = linked.passed;
+    let Passed::To(end) = closed else {
+        return refused(closed);
+    };
+    if end.at < s.len() {
+        return Reading::Refused(6, end.at);
+    }
+    Reading::Good(View {
+        tasks,
+        processors,
+        budget,
+        deadline,
+        prices_at: prices.at,
+        tasks_at: first.at,
+        edges_at: edges.at,
+        edges: linked.count,
+    })
+}
