@@ -1,0 +1,38 @@
+-- At the edge's place stands the number of the workflow.
+use mathlib.Core.Path.{sym, _∙_, ap}
+use Prim.Native.Nat.{ℕ, _+_}
+use Rattle.rules.specs.Fields.{size, body, two-bytes, E-transfer}
+use Rattle.rules.specs.Workflow.{workflow}
+use Rattle.good.specs.ReadIsGood.{read-is-good}
+use Rattle.good.specs.RangeLaws.{good-in-range}
+use Rattle.good.specs.Inside.{transfer-there}
+use Rattle.reader.specs.Meaning.{meant-view}
+use native.Mathlib.Omega.{arith}
+use borrow.Author.Needs.{needs}
+use Rattle.lookup.proofs.transfer.Statement.{statement}
+use Rattle.lookup.proofs.transfer.Tie as tie
+use Rattle.lookup.proofs.transfer.Reads as reads
+use Rattle.lookup.proofs.transfer.Lts as lts
+use Rattle.lookup.proofs.edge_place.Reads as edge-place-reads
+use Rattle.records.proofs.two_bytes.Reads as two-bytes-reads
+
+-- src/lib.rt:73:27
+edge-place-requires : tie.Need-edge-place-requires
+edge-place-requires c κs = search needs
+
+-- src/lib.rt:73:5
+two-bytes-requires : tie.Need-two-bytes-requires
+unfolding size body
+two-bytes-requires c κs = omega (arith, c .edge-place .ensures .1)
+
+-- src/lib.rt:68:1
+returns : tie.Need-returns
+unfolding workflow E-transfer
+returns c =
+    let a = c .before .before .before .args in
+    let place = ap (λ (at : ℕ). two-bytes (a .s .now) (at + 3)) (c .before .edge-place .ensures .0) in
+    let is = c .two-bytes .ensures .0 ∙ place ∙ sym (transfer-there (a .s .now) (meant-view (a .v)) (a .edge) (c .before .before .before .pre .1)) in
+    (is, rw is ((good-in-range (a .s .now) (meant-view (a .v)) (read-is-good _ (c .before .before .before .pre .0))) .transfer-in (a .edge)))
+
+pub transfer-spec : {M : Type 1} → statement M
+transfer-spec = tie.close (tie.spec edge-place-requires two-bytes-requires returns)
