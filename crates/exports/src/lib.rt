@@ -1,5 +1,12 @@
-// The checks of a label under names that a program in C or Rust links. A slice is passed as its pointer and its length.
+// What a program in C or Rust links: numbers, structs of numbers and slices. A slice is passed as its pointer and its length.
+ghost use mathlib.Core.Path.{_≡_};
 ghost use Rattle.label.specs.Label.{ListedTold, LabelLength};
+ghost use Rattle.rules.specs.Reading.{read-request};
+ghost use Rattle.rules.specs.Labels.{label-lookup};
+ghost use Rattle.reader.specs.Meaning.{meant-deadline};
+ghost use Rattle.exports.specs.Told.{told-deadline, told, told-part};
+use reader::Deadline;
+use reader::Reading;
 
 // Whether a byte stands in the list.
 #[no_mangle]
@@ -15,4 +22,87 @@ pub extern "C" fn zabgurin_label_len(request: &[u8], at: usize) -> usize
     ensures { λ r. ⌜ LabelLength (now (request .entry)) at r ⌝ }
 {
     label::label_len(request, at)
+}
+
+// What reading says. `number` is that of the refusal, 1 to 6, with its place; or 0 for a good request, with its numbers and where its parts begin. A
+// deadline of 0 is none.
+#[repr(C)]
+pub struct ZabgurinReading {
+    pub number: u64,
+    pub place: usize,
+    pub tasks: usize,
+    pub processors: usize,
+    pub budget: u64,
+    pub deadline: u64,
+    pub prices_at: usize,
+    pub tasks_at: usize,
+    pub edges_at: usize,
+    pub edges: usize,
+}
+
+// The minutes of a deadline; 0 for none.
+fn deadline_minutes(deadline: Deadline) -> u64
+    ensures { λ r. ⌜ r ≡ told-deadline (meant-deadline deadline) ⌝ }
+{
+    match deadline {
+        Deadline::Without => 0,
+        Deadline::By(minutes) => minutes,
+    }
+}
+
+// Reads a request.
+#[no_mangle]
+pub extern "C" fn zabgurin_read(request: &[u8]) -> ZabgurinReading
+    ensures { λ r. ⌜ r ≡ told (read-request (now (request .entry))) ⌝ }
+{
+    let answer = reader::read_request(request);
+    match answer {
+        Reading::Good(v) => {
+            let deadline = v.deadline;
+            ZabgurinReading {
+                number: 0,
+                place: 0,
+                tasks: v.tasks,
+                processors: v.processors,
+                budget: v.budget,
+                deadline: deadline_minutes(deadline),
+                prices_at: v.prices_at,
+                tasks_at: v.tasks_at,
+                edges_at: v.edges_at,
+                edges: v.edges,
+            }
+        }
+        Reading::Refused(number, place) => ZabgurinReading {
+            number,
+            place,
+            tasks: 0,
+            processors: 0,
+            budget: 0,
+            deadline: 0,
+            prices_at: 0,
+            tasks_at: 0,
+            edges_at: 0,
+            edges: 0,
+        },
+    }
+}
+
+// A part of the request's bytes.
+#[repr(C)]
+pub struct ZabgurinPart {
+    pub begin: usize,
+    pub length: usize,
+}
+
+// Where the label of a task stands in the request, without its spaces; of length 0, at the start, for a request that is refused in reading and for a task
+// that it does not have.
+#[no_mangle]
+pub extern "C" fn zabgurin_label(request: &[u8], task: usize) -> ZabgurinPart
+    ensures { λ r. ⌜ r ≡ told-part (label-lookup (now (request .entry)) task) ⌝ }
+{
+    let part = lookup::label_part(request, task);
+    ZabgurinPart {
+        begin: part.begin,
+        length: part.length,
+    }
 }
