@@ -1,6 +1,9 @@
 //! Random requests from a fixed seed, good and damaged, for tests and measurements.
 
+use std::ops::Range;
+
 use crate::build::Draft;
+use crate::request::LIST;
 
 /// Marsaglia's xorshift with 64 bits.
 pub struct Random(pub u64);
@@ -20,6 +23,20 @@ impl Random {
 
     pub fn one_in(&mut self, count: u64) -> bool {
         self.within(1, count) == 1
+    }
+
+    /// Both ends are included, and each is given at least once in eight times.
+    pub fn often_an_end(&mut self, low: u64, high: u64) -> u64 {
+        match self.within(1, 8) {
+            1 => low,
+            2 => high,
+            _ => self.within(low, high),
+        }
+    }
+
+    /// One of these.
+    pub fn one_of<T: Copy>(&mut self, these: &[T]) -> T {
+        these[self.within(0, these.len() as u64 - 1) as usize]
     }
 }
 
@@ -102,5 +119,216 @@ pub fn damage(random: &mut Random, request: &mut Vec<u8>) {
             4 => request[at] ^= 1 << random.within(0, 7),
             _ => drop(request.remove(at)),
         }
+    }
+}
+
+/// A good request of exactly these sizes, for readers: each number anywhere in
+/// its range and often at an end of it, labels of any bytes of the list, a
+/// deadline in every second one. A request of n tasks has n x (n-1) edges at
+/// the most.
+pub fn sized(random: &mut Random, n: u64, m: u64, edges: u64) -> Draft {
+    let mut draft = Draft::new(random.often_an_end(0, 20_000_000) as u32, &[], &[], &[]);
+    draft.deadline = random.one_in(2).then(|| random.often_an_end(1, 200_000) as u32);
+    draft.prices = (0..m).map(|_| random.often_an_end(0, 100) as u8).collect();
+    for _ in 0..n {
+        let length = random.often_an_end(1, 8);
+        let label = (0..length).map(|_| char::from(random.one_of(LIST))).collect();
+        let minutes = (0..m).map(|_| random.often_an_end(1, 2_000) as u16).collect();
+        draft.tasks.push((label, minutes));
+    }
+
+    // Of the pairs in rising order, each is taken with the chance wanted in left.
+    let mut left = n * (n - 1);
+    let mut wanted = edges.min(left);
+    for from in 0..n {
+        for to in (0..n).filter(|&to| to != from) {
+            if random.within(1, left) <= wanted {
+                let transfer = random.often_an_end(0, 1_000) as u16;
+                draft.edges.push((from as u8, to as u8, transfer));
+                wanted -= 1;
+            }
+            left -= 1;
+        }
+    }
+    draft
+}
+
+/// The ways to damage a request that [`Damage::to`] knows.
+#[derive(Clone, Copy, Debug, PartialEq, Eq)]
+pub enum Damage {
+    /// Some bytes at the end are gone.
+    Cut,
+    /// Up to four bytes more, half of the time at the end.
+    Lengthened,
+    /// Up to four bytes less, anywhere.
+    Shortened,
+    /// Up to four bytes are others.
+    Changed,
+    /// One number is just past an end of its range, or one byte of a label is
+    /// no longer a listed one.
+    OutOfRange,
+    /// A record stands elsewhere.
+    Moved,
+    /// A record is there twice.
+    Doubled,
+    /// A record is gone.
+    Dropped,
+    /// From some place on, half of the time from the front, all is noise.
+    Noise,
+    /// Two to four of the above.
+    Several,
+}
+
+impl Damage {
+    pub const ALL: [Damage; 10] = [
+        Damage::Cut,
+        Damage::Lengthened,
+        Damage::Shortened,
+        Damage::Changed,
+        Damage::OutOfRange,
+        Damage::Moved,
+        Damage::Doubled,
+        Damage::Dropped,
+        Damage::Noise,
+        Damage::Several,
+    ];
+
+    /// Damages a request, which may be damaged already; an empty one can stay
+    /// as it is. A damaged request can be a good one.
+    pub fn to(self, random: &mut Random, request: &mut Vec<u8>) {
+        let len = request.len() as u64;
+        if len == 0 && !matches!(self, Damage::Lengthened | Damage::Noise | Damage::Several) {
+            return;
+        }
+        match self {
+            Damage::Cut => request.truncate(random.within(0, len - 1) as usize),
+            Damage::Lengthened => {
+                let at = if random.one_in(2) { len } else { random.within(0, len) } as usize;
+                for _ in 0..random.within(1, 4) {
+                    request.insert(at, any_byte(random));
+                }
+            }
+            Damage::Shortened => {
+                let at = random.within(0, len - 1) as usize;
+                let end = request.len().min(at + random.within(1, 4) as usize);
+                request.drain(at..end);
+            }
+            Damage::Changed => {
+                for _ in 0..random.within(1, 4) {
+                    let byte = &mut request[random.within(0, len - 1) as usize];
+                    *byte = match random.within(1, 4) {
+                        1 => any_byte(random),
+                        2 => *byte ^ 1 << random.within(0, 7),
+                        3 => byte.wrapping_add(1),
+                        _ => byte.wrapping_sub(1),
+                    };
+                }
+            }
+            Damage::OutOfRange => {
+                let record = any_record(random, request);
+                put_out_of_range(random, request, record);
+            }
+            Damage::Moved => {
+                let record = any_record(random, request);
+                let record: Vec<u8> = request.drain(record).collect();
+                let mut places: Vec<usize> = records(request).iter().map(|r| r.start).collect();
+                places.push(request.len());
+                let at = random.one_of(&places);
+                request.splice(at..at, record);
+            }
+            Damage::Doubled => {
+                let record = any_record(random, request);
+                let copy = request[record.clone()].to_vec();
+                request.splice(record.end..record.end, copy);
+            }
+            Damage::Dropped => {
+                let record = any_record(random, request);
+                request.drain(record);
+            }
+            Damage::Noise => {
+                let kept = if random.one_in(2) { 0 } else { random.within(0, len) };
+                request.truncate(kept as usize);
+                let noise = random.within(1, 100);
+                request.extend((0..noise).map(|_| random.number() as u8));
+            }
+            Damage::Several => {
+                let others = &Damage::ALL[..Damage::ALL.len() - 1];
+                for _ in 0..random.within(2, 4) {
+                    random.one_of(others).to(random, request);
+                }
+            }
+        }
+    }
+}
+
+/// Any byte, half of the time a kind byte, a space or a small number.
+fn any_byte(random: &mut Random) -> u8 {
+    if random.one_in(2) {
+        random.one_of(b"HDPTWEZ \0\x01\x02")
+    } else {
+        random.number() as u8
+    }
+}
+
+/// Where each record stands, by the sizes of the kinds. What begins with no
+/// kind byte, or is cut short, is one last record.
+pub fn records(request: &[u8]) -> Vec<Range<usize>> {
+    let mut records = Vec::new();
+    let mut at = 0;
+    while at < request.len() {
+        let body = match request[at] {
+            b'H' => 6,
+            b'D' | b'W' | b'E' => 4,
+            b'P' => 2,
+            b'T' => 9,
+            b'Z' => 0,
+            _ => request.len(),
+        };
+        let end = request.len().min(at + 1 + body);
+        records.push(at..end);
+        at = end;
+    }
+    records
+}
+
+/// A record of a request that is not empty; each kind in it is as likely.
+fn any_record(random: &mut Random, request: &[u8]) -> Range<usize> {
+    let records = records(request);
+    let mut kinds: Vec<u8> = records.iter().map(|record| request[record.start]).collect();
+    kinds.sort();
+    kinds.dedup();
+    let kind = random.one_of(&kinds);
+    let mut of_kind: Vec<&Range<usize>> =
+        records.iter().filter(|record| request[record.start] == kind).collect();
+    of_kind.swap_remove(random.within(0, of_kind.len() as u64 - 1) as usize).clone()
+}
+
+/// Puts one field of a whole record just past an end of its range; any other
+/// record stays as it is.
+fn put_out_of_range(random: &mut Random, request: &mut [u8], record: Range<usize>) {
+    let n = request.get(1).copied().unwrap_or(0);
+    match &mut request[record] {
+        [b'H', n, m, budget @ ..] if budget.len() == 4 => match random.within(1, 3) {
+            1 => *n = random.one_of(&[0, 65]),
+            2 => *m = random.one_of(&[0, 17]),
+            _ => budget.copy_from_slice(&20_000_001u32.to_le_bytes()),
+        },
+        [b'D', deadline @ ..] if deadline.len() == 4 => {
+            deadline.copy_from_slice(&random.one_of(&[0, 200_001u32]).to_le_bytes())
+        }
+        [b'P', _, price] => *price = 101,
+        [b'T', _, label @ ..] if label.len() == 8 => {
+            label[random.within(0, 7) as usize] = random.one_of(b" ;@[`{/:,^.\0\n\x7f\x80\xc1\xff")
+        }
+        [b'W', _, _, minutes @ ..] if minutes.len() == 2 => {
+            minutes.copy_from_slice(&random.one_of(&[0, 2_001u16]).to_le_bytes())
+        }
+        [b'E', from, to, transfer @ ..] if transfer.len() == 2 => match random.within(1, 4) {
+            1 => *from = n,
+            2 => *to = n,
+            3 => *to = *from,
+            _ => transfer.copy_from_slice(&1_001u16.to_le_bytes()),
+        },
+        _ => {}
     }
 }

@@ -5,7 +5,8 @@ use std::ops::Range;
 const EDGE_LIMIT: usize = 512;
 
 /// "The list has sixty-four bytes."
-const LIST: &[u8; 64] = b"ABCDEFGHIJKLMNOPQRSTUVWXYZabcdefghijklmnopqrstuvwxyz0123456789-_";
+pub(crate) const LIST: &[u8; 64] =
+    b"ABCDEFGHIJKLMNOPQRSTUVWXYZabcdefghijklmnopqrstuvwxyz0123456789-_";
 
 /// The list once more, as one yes or no for each byte value.
 const LISTED: [bool; 256] = {

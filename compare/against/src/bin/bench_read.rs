@@ -1,0 +1,75 @@
+//! Times the exported reader and label lookup against the independent program's, side by side: nanoseconds for one
+//! request, the best of many rounds.
+#![cfg_attr(not(target_arch = "x86_64"), allow(dead_code, unused_imports))]
+use compare::build::{sample, Draft};
+use compare::random::{sized, Random};
+use std::hint::black_box;
+use std::time::Instant;
+
+const ROUNDS: usize = 4_000;
+
+/// Nanoseconds that one call takes in this round.
+fn round<T>(passes: usize, call: impl Fn(&[u8]) -> T, request: &[u8]) -> f64 {
+    let start = Instant::now();
+    for _ in 0..passes {
+        black_box(call(black_box(request)));
+    }
+    start.elapsed().as_nanos() as f64 / passes as f64
+}
+
+/// Times both on one request and prints a line.
+fn compete<T, U>(
+    name: &str,
+    request: &[u8],
+    proved: impl Fn(&[u8]) -> T,
+    plain: impl Fn(&[u8]) -> U,
+) {
+    // Rounds of some tens of microseconds, whatever the length.
+    let passes = (100_000 / request.len()).clamp(10, 200);
+    let (mut ours, mut theirs) = (f64::MAX, f64::MAX);
+    for _ in 0..ROUNDS {
+        ours = ours.min(round(passes, &proved, request));
+        theirs = theirs.min(round(passes, &plain, request));
+    }
+    let (bytes, ratio) = (request.len(), ours / theirs);
+    println!("{name}, {bytes} bytes: proved {ours:.0} ns, plain {theirs:.0} ns, ratio {ratio:.2}");
+}
+
+/// The full request, with a deadline.
+fn full() -> Draft {
+    let mut draft = sized(&mut Random(0x5eed_4ead_be9c_0001), 64, 16, 512);
+    draft.deadline = Some(200_000);
+    draft
+}
+
+/// 64 tasks with labels of eight bytes, and as little as can be besides.
+fn labels() -> Draft {
+    let mut draft = sized(&mut Random(0x5eed_4ead_be9c_0002), 64, 1, 0);
+    draft.deadline = None;
+    for (label, _) in &mut draft.tasks {
+        while label.len() < 8 {
+            label.push('x');
+        }
+    }
+    draft
+}
+
+#[cfg(not(target_arch = "x86_64"))]
+fn main() {
+    println!("{}", against::NOT_HERE);
+}
+
+#[cfg(target_arch = "x86_64")]
+fn main() {
+    use against::linked;
+    let (full, labels, small) = (full().bytes(), labels().bytes(), sample(28).bytes());
+    assert_eq!((full.len(), small.len()), (8_381, 84));
+    for request in [&full, &labels, &small] {
+        assert!(linked::read(request).number == 0 && compare::read(request).is_ok());
+    }
+    compete("read the full request", &full, linked::read, compare::read);
+    compete("read one of labels", &labels, linked::read, compare::read);
+    compete("read S(28)", &small, linked::read, compare::read);
+    let last = |label: fn(&[u8], usize) -> &[u8]| move |request: &[u8]| label(request, 63).len();
+    compete("last label of the full request", &full, last(linked::label), last(compare::label));
+}

@@ -1,0 +1,346 @@
+//! The exported reader and label lookup against the independent program: random good requests up to the full size,
+//! damaged ones of every kind, every cut, every byte and every number of two bytes, too many edges, noise.
+use against::{Driver, Reading};
+use compare::build::{d, e, p, sample, t, w, z, Draft};
+use compare::random::{sized, Damage, Random};
+use compare::{Edge, Refusal, Workflow};
+
+// The sizes of document 01's records, with the kind byte.
+const P: usize = 3;
+const T: usize = 10;
+const W: usize = 5;
+const E: usize = 5;
+
+/// Task numbers that no request has, one for each way to lose the upper bytes of a number.
+const NO_TASKS: [usize; 8] = [64, 65, 255, 256, 257, 1 << 16, 1 << 32, usize::MAX];
+
+/// Holds the proved reader and label lookup against the independent program on each request. Gives the numbers of
+/// the refusals, 0 for a good request.
+fn agree(requests: impl IntoIterator<Item = Vec<u8>>) -> Vec<usize> {
+    let (mut driver, mut numbers) = (Driver::start(), Vec::new());
+    let mut requests = requests.into_iter().peekable();
+    while requests.peek().is_some() {
+        let batch: Vec<_> = requests.by_ref().take(64).collect();
+        let theirs: Vec<_> = batch.iter().map(|request| compare::read(request)).collect();
+        let questions: Vec<_> = batch
+            .iter()
+            .zip(&theirs)
+            .map(|(request, theirs)| {
+                let tasks = theirs.as_ref().map_or(4, |workflow| workflow.tasks + 3);
+                (&request[..], (0..tasks).chain(NO_TASKS).collect())
+            })
+            .collect();
+        let answers = driver.read(&questions);
+        for (((request, tasks), theirs), (ours, labels)) in
+            questions.iter().zip(theirs).zip(&answers)
+        {
+            numbers.push(ours.number as usize);
+            match theirs {
+                Err(Refusal { number, place }) => {
+                    let refused = Reading { number, place: place as usize, ..Reading::default() };
+                    assert_eq!(*ours, refused, "request {request:?}");
+                }
+                Ok(theirs) => {
+                    assert_eq!((ours.number, ours.place), (0, 0), "request {request:?}");
+                    let sizes = (theirs.tasks, theirs.processors, theirs.edges.len());
+                    let read = (ours.tasks, ours.processors, ours.edges);
+                    assert_eq!(read, sizes, "request {request:?}");
+                    assert_eq!(workflow(request, ours, labels), theirs, "request {request:?}");
+                }
+            }
+            for (&task, &ours) in tasks.iter().zip(labels) {
+                let theirs = compare::label(request, task);
+                let same = ours.as_ptr_range() == theirs.as_ptr_range();
+                assert!(
+                    same,
+                    "task {task}: {ours:?}, not {theirs:?}, or elsewhere; request {request:?}"
+                );
+            }
+        }
+    }
+    numbers
+}
+
+/// How often each number was met.
+fn met(numbers: &[usize]) -> [usize; 7] {
+    let mut met = [0; 7];
+    for &number in numbers {
+        met[number] += 1;
+    }
+    met
+}
+
+/// The tables of a good request, each number decoded where the reading says that its part stands.
+fn workflow(request: &[u8], reading: &Reading, labels: &[&[u8]]) -> Workflow {
+    let begins = |at: usize, record: &[u8]| {
+        let found = request.get(at..at + record.len());
+        assert_eq!(found, Some(record), "at {at} of request {request:?}");
+    };
+    let two = |at: usize| u32::from(u16::from_le_bytes([request[at], request[at + 1]]));
+    let &Reading { tasks: n, processors: m, prices_at, tasks_at, edges_at, edges, .. } = reading;
+    let price = |j: usize| {
+        let at = prices_at + j * P;
+        begins(at, &[b'P', j as u8]);
+        u32::from(request[at + 2])
+    };
+    let task = |i: usize| tasks_at + i * (T + m * W);
+    let minutes = |i: usize, j: usize| {
+        let at = task(i) + T + j * W;
+        begins(at, &[b'W', i as u8, j as u8]);
+        two(at + 3)
+    };
+    let place = |i: usize| {
+        begins(task(i), &[b'T', i as u8]);
+        let part = labels[i];
+        let begin = part.as_ptr() as usize - request.as_ptr() as usize;
+        assert_eq!(begin, task(i) + 2, "label {i} of request {request:?}");
+        begin..begin + part.len()
+    };
+    let edge = |k: usize| {
+        let at = edges_at + k * E;
+        begins(at, b"E");
+        Edge { from: request[at + 1].into(), to: request[at + 2].into(), transfer: two(at + 3) }
+    };
+    begins(edges_at + edges * E, b"Z");
+    assert_eq!(edges_at + edges * E + 1, request.len(), "request {request:?}");
+    Workflow {
+        tasks: n,
+        processors: m,
+        budget: reading.budget.try_into().unwrap(),
+        deadline: (reading.deadline != 0).then(|| reading.deadline.try_into().unwrap()),
+        prices: (0..m).map(price).collect(),
+        minutes: (0..n)
+            .flat_map(|i| (0..m).map(move |j| (i, j)))
+            .map(|(i, j)| minutes(i, j))
+            .collect(),
+        labels: (0..n).map(place).collect(),
+        edges: (0..edges).map(edge).collect(),
+    }
+}
+
+/// Small ones mostly; some of any size, and some of the full one.
+fn good(random: &mut Random) -> Draft {
+    match random.within(1, 40) {
+        1 => sized(random, 64, 16, 512),
+        2..=4 => {
+            let (n, m) = (random.often_an_end(1, 64), random.often_an_end(1, 16));
+            let edges = random.often_an_end(0, 512);
+            sized(random, n, m, edges)
+        }
+        _ => {
+            let (n, m) = (random.within(1, 6), random.within(1, 4));
+            let edges = random.within(0, 10);
+            sized(random, n, m, edges)
+        }
+    }
+}
+
+#[test]
+fn good_requests() {
+    let mut random = Random(0x5eed_4ead_0000_0001);
+    let (mut full, mut with_deadline, mut without) = (0, 0, 0);
+    // How often a request has the lowest and the highest value of each range.
+    let mut ends = [("", [0; 2]); 9];
+    let mut of_length = [0; 9];
+    let requests = (0..24_000).map(|_| {
+        let draft = good(&mut random);
+        let request = draft.bytes();
+        let sizes = (draft.tasks.len(), draft.prices.len(), draft.edges.len());
+        full += usize::from(sizes == (64, 16, 512));
+        match draft.deadline {
+            Some(_) => with_deadline += 1,
+            None => without += 1,
+        }
+        let prices: Vec<u32> = draft.prices.iter().map(|&price| price.into()).collect();
+        let minutes: Vec<u32> =
+            draft.tasks.iter().flat_map(|task| &task.1).map(|&time| time.into()).collect();
+        let transfers: Vec<u32> = draft.edges.iter().map(|edge| edge.2.into()).collect();
+        let ranges: [(&str, u32, u32, &[u32]); 9] = [
+            ("n", 1, 64, &[sizes.0 as u32]),
+            ("m", 1, 16, &[sizes.1 as u32]),
+            ("edges", 0, 512, &[sizes.2 as u32]),
+            ("budget", 0, 20_000_000, &[draft.budget]),
+            ("deadline", 1, 200_000, draft.deadline.as_slice()),
+            ("price", 0, 100, &prices),
+            ("minutes", 1, 2_000, &minutes),
+            ("transfer", 0, 1_000, &transfers),
+            ("bytes", 31, 8_381, &[request.len() as u32]),
+        ];
+        for (end, (name, low, high, values)) in ends.iter_mut().zip(ranges) {
+            end.0 = name;
+            end.1[0] += usize::from(values.contains(&low));
+            end.1[1] += usize::from(values.contains(&high));
+        }
+        for task in &draft.tasks {
+            of_length[task.0.len()] += 1;
+        }
+        request
+    });
+    assert!(agree(requests).iter().all(|&number| number == 0));
+    println!("{full} full, {with_deadline} with a deadline, {without} without; ends {ends:?}; labels {of_length:?}");
+    assert!(full >= 500, "{full} full");
+    assert!(
+        with_deadline >= 10_000 && without >= 10_000,
+        "{with_deadline} with, {without} without"
+    );
+    assert!(ends.iter().all(|end| end.1[0] >= 200 && end.1[1] >= 200), "{ends:?}");
+    assert!(of_length[1..].iter().all(|&seen| seen >= 10_000), "{of_length:?}");
+}
+
+#[test]
+fn damaged_requests() {
+    let mut random = Random(0x5eed_4ead_0000_0002);
+    let requests = Damage::ALL.iter().cycle().take(60_000).map(|kind| {
+        let mut request = good(&mut random).bytes();
+        kind.to(&mut random, &mut request);
+        request
+    });
+    // For each kind of damage, how often it was read as a good request (at 0) and how often each refusal was met.
+    let mut met = [[0; 7]; Damage::ALL.len()];
+    for (round, number) in agree(requests).into_iter().enumerate() {
+        met[round % Damage::ALL.len()][number] += 1;
+    }
+    let mut of_number = [0; 7];
+    for (kind, of_kind) in Damage::ALL.iter().zip(&met) {
+        println!("{kind:?}: {of_kind:?}");
+        for (sum, seen) in of_number.iter_mut().zip(of_kind) {
+            *sum += seen;
+        }
+        assert!(of_kind[1..].iter().sum::<usize>() >= 1_000, "{kind:?}: {of_kind:?}");
+    }
+    let refused: usize = of_number[1..].iter().sum();
+    println!("{refused} refused: {of_number:?}");
+    assert!(refused >= 20_000, "{refused} refused");
+    assert!(of_number.iter().all(|&seen| seen >= 500), "{of_number:?}");
+}
+
+#[test]
+fn every_cut() {
+    let mut random = Random(0x5eed_4ead_0000_0003);
+    let mut drafts = vec![sample(28), sized(&mut random, 1, 1, 0), sized(&mut random, 64, 16, 512)];
+    drafts.extend((0..200).map(|_| sized(&mut random, 3, 2, 4)));
+    for mut draft in drafts {
+        for deadline in [None, Some(14)] {
+            draft.deadline = deadline;
+            let request = draft.bytes();
+            let mut numbers = agree((0..=request.len()).map(|length| request[..length].to_vec()));
+            assert_eq!(numbers.pop(), Some(0), "request {request:?}");
+            let not_cut = numbers.iter().position(|&number| number != 1);
+            assert_eq!(not_cut, None, "a cut of {request:?}");
+        }
+    }
+}
+
+#[test]
+fn every_byte_of_the_sample() {
+    let requests = [None, Some(14)].into_iter().flat_map(|deadline| {
+        let mut draft = sample(28);
+        draft.deadline = deadline;
+        let request = draft.bytes();
+        (0..request.len() * 256).map(move |k| {
+            let mut changed = request.clone();
+            changed[k / 256] = k as u8;
+            changed
+        })
+    });
+    let met = met(&agree(requests));
+    println!("{met:?}");
+    assert_eq!(met.iter().sum::<usize>(), (84 + 89) * 256);
+    // 1 needs `Z` turned into `E`, and 6 one of the two `E` turned into `Z`, in each of the two requests.
+    assert_eq!((met[1], met[6]), (2, 4));
+    assert!([0, 2, 3, 4, 5].iter().all(|&number| met[number] >= 1_000), "{met:?}");
+}
+
+/// All values of minutes and transfer; of budget and deadline those at the ends of the range and of each byte.
+#[test]
+fn every_number_of_more_bytes() {
+    let mut all = Vec::new();
+    let mut within = |name, low, high, values: &[u32], change: fn(&mut Draft, u32)| {
+        let request = |&value: &u32| {
+            let mut draft = sample(28);
+            change(&mut draft, value);
+            draft.bytes()
+        };
+        let numbers = agree(values.iter().map(request));
+        for (value, &number) in values.iter().zip(&numbers) {
+            let wanted = if (low..=high).contains(value) { 0 } else { 4 };
+            assert_eq!(number, wanted, "{name} {value}");
+        }
+        all.extend(numbers);
+    };
+    let values: Vec<u32> = (0..=u16::MAX.into()).collect();
+    within("minutes", 1, 2_000, &values, |draft, value| draft.tasks[1].1[0] = value as u16);
+    within("transfer", 0, 1_000, &values, |draft, value| draft.edges[0].2 = value as u16);
+    let mut random = Random(0x5eed_4ead_0000_0004);
+    let near = |end: u32| (0..=600).map(move |more| end.wrapping_sub(300).wrapping_add(more));
+    let ends = [0, 1 << 8, 1 << 16, 200_000, 1 << 24, 20_000_000, 1 << 31];
+    let random = (0..20_000).map(|_| (random.number() >> random.within(32, 63)) as u32);
+    let values: Vec<u32> = ends.into_iter().flat_map(near).chain(random).collect();
+    within("budget", 0, 20_000_000, &values, |draft, value| draft.budget = value);
+    within("deadline", 1, 200_000, &values, |draft, value| draft.deadline = Some(value));
+    let met = met(&all);
+    println!("{met:?}");
+    assert!(met[0] >= 10_000 && met[4] >= 100_000, "{met:?}");
+}
+
+/// The 513th edge is refused before its order and its fields are looked at, but only when it is whole.
+#[test]
+fn edges_past_the_limit() {
+    let mut random = Random(0x5eed_4ead_0000_0005);
+    let mut cases = Vec::new();
+    let mut expect = |number: usize, request: &[u8]| cases.push((number, request.to_vec()));
+    for _ in 0..100 {
+        let n = random.often_an_end(24, 64);
+        let mut draft = sized(&mut random, n, 1, 512);
+        assert_eq!(draft.edges.len(), 512);
+        expect(0, &draft.bytes());
+        let last = draft.edges[511];
+        for more in [(255, 254, 0), (0, 0, 0), last, (last.0, last.1, u16::MAX)] {
+            draft.edges.push(more);
+            let request = draft.bytes();
+            expect(4, &request);
+            for cut in 1..=E {
+                expect(1, &request[..request.len() - 1 - cut]);
+            }
+            draft.edges.pop();
+        }
+        let more = 512 + random.within(1, 30);
+        expect(4, &sized(&mut random, n, 1, more).bytes());
+    }
+    let numbers = agree(cases.iter().map(|(_, request)| request.clone()));
+    for ((wanted, request), number) in cases.iter().zip(numbers) {
+        assert_eq!(number, *wanted, "request {request:?}");
+    }
+}
+
+/// Up to 64 bytes: a header that passes, or more of the front of a good request, and behind it bytes of any sort or
+/// whole records with small numbers.
+#[test]
+fn noise_behind_a_header() {
+    let mut random = Random(0x5eed_4ead_0000_0006);
+    let requests = (0..300_000).map(|_| {
+        let (n, m) = (random.within(1, 2), random.within(1, 2));
+        let records = sized(&mut random, n, m, 2).records();
+        let kept = random.often_an_end(1, records.len() as u64) as usize;
+        let mut request = records[..kept].concat();
+        let (sort, length) = (random.within(1, 4), random.within(7, 64) as usize);
+        while request.len() < length {
+            let [a, b, c] = [(); 3].map(|()| random.within(0, 2) as u8);
+            match (sort, random.within(1, 6)) {
+                (1, _) => request.push(random.number() as u8),
+                (2, _) => request.push(random.one_of(b"DPTWEZ\0\x01\x02 a")),
+                (_, 1) => request.extend(d(c.into())),
+                (_, 2) => request.extend(p(a, b)),
+                (_, 3) => request.extend(t(a, &b"aZ-"[..usize::from(b)])),
+                (_, 4) => request.extend(w(a, b, c.into())),
+                (_, 5) => request.extend(e(a, b, c.into())),
+                _ => request.extend(z()),
+            }
+        }
+        request.truncate(length);
+        request
+    });
+    let met = met(&agree(requests));
+    println!("{met:?}");
+    assert!(met.iter().all(|&seen| seen >= 300), "{met:?}");
+}
