@@ -1,0 +1,109 @@
+-- Demand 3: two requests that differ only in their units get the same machines or the same refusal.
+use mathlib.Core.Path.{_≡_, sym, ap, ap₂, _∙_}
+use Prim.Native.Nat.{ℕ, _*_, _<_, _≤_}
+use mathlib.Core.List.{List, map}
+use lib.ListN.{length, take}
+use mathlib.Core.Logic.{_≢_}
+use native.Mathlib.Omega.{arith}
+use borrow.Author.Tests.{ne-eqb}
+use Rattle.rules.specs.Records.{read}
+use Rattle.rules.specs.Reading.{Request, read-request}
+use Rattle.rules.specs.Workflow.{Workflow, workflow}
+use Rattle.rules.specs.Rows.{Row}
+use Rattle.rules.specs.Method.{HBCS}
+use Rattle.rules.specs.Answer.{outcome-by, outcome, planned, refused, answer-of, answer, written, rows-after}
+use Rattle.rules.specs.Multiplied.{multiplied-deadline, multiplied, multiplied-row, multiplied-place, multiplied-answer}
+use Rattle.demands.specs.HBCSMultiplied.{HBCS-keeps-choices}
+use Rattle.demands.specs.AnswerMultiplied.{multiplied-outcome, outcome-by-multiplied, answer-of-multiplied, written-multiplied}
+use Rattle.demands.specs.GoodRequest.{outcome-of-good, ZeroBeyond, workflow-zero-beyond, ends-multiplied, same-everywhere}
+
+-- "all times, transfers and any deadline multiplied by a whole a, prices by a whole b, the budget by a times b": W′ is W so multiplied.
+-- "A request without `D` stays without one. [..] edges' ends, n and m are equal."
+pub record MultipliedBy (a b : ℕ) (W W′ : Workflow) : Type 0 where
+  pub tasks : W′ .tasks ≡ W .tasks
+  pub processors : W′ .processors ≡ W .processors
+  pub budget : W′ .budget ≡ a * b * W .budget
+  pub deadline : W′ .deadline ≡ multiplied-deadline a (W .deadline)
+  pub price : (j : ℕ) → j < W .processors → W′ .price j ≡ b * W .price j
+  pub minutes : (i j : ℕ) → i < W .tasks → j < W .processors → W′ .minutes i j ≡ a * W .minutes i j
+  pub edges : W′ .edges ≡ W .edges
+  pub from : (e : ℕ) → e < W .edges → W′ .from e ≡ W .from e
+  pub to : (e : ℕ) → e < W .edges → W′ .to e ≡ W .to e
+  pub transfer : (e : ℕ) → e < W .edges → W′ .transfer e ≡ a * W .transfer e
+
+-- What the second request gets, where the first has these rows lent and the second those: the answer is the first's with the length a times, cost and
+-- remainder a times b times, or the same refusal; and in a plan the rows have the same machines, starts and finishes a times, costs a times b times.
+pub record SamePlan (a b : ℕ) (s t : List ℕ) (lent lent′ : List Row) : Type 0 where
+  pub answers : answer t (length lent′) ≡ multiplied-answer a b (answer s (length lent))
+  pub rows : (n l c left : ℕ) → answer s (length lent) ≡ planned n l c left →
+      take n (rows-after t lent′) ≡ map (multiplied-row a b) (take n (rows-after s lent))
+
+-- "If both pass reading and are lent the same number of rows, they get the same machines or the same refusal number".
+pub multiplied-requests :
+    (a b : ℕ) → 1 ≤ a → 1 ≤ b → (s t : List ℕ) {end end′ : ℕ} {r r′ : Request} → read-request s ≡ read end r → read-request t ≡ read end′ r′
+    → MultipliedBy a b (workflow s r) (workflow t r′) → (lent lent′ : List Row) → length lent′ ≡ length lent → SamePlan a b s t lent lent′
+unfolding multiplied answer rows-after
+multiplied-requests a b pa pb s t {r = r} {r′ = r′} good good′ by lent lent′ lengths =
+    record {
+      answers = ap answer-of outcomes ∙ answer-of-multiplied a b pa (outcome s (length lent));
+      rows = λ n l c left e.
+          ap (λ o. take n (written o lent′)) outcomes ∙ written-multiplied a b (outcome s (length lent)) lent lent′ n l c left e;
+    }
+  where
+    W-ends : ZeroBeyond (workflow s r)
+    W-ends = workflow-zero-beyond s r
+
+    W′-ends : ZeroBeyond (workflow t r′)
+    W′-ends = workflow-zero-beyond t r′
+
+    workflows : workflow t r′ ≡ multiplied a b (workflow s r)
+    workflows =
+        λ z. record {
+          tasks = by .tasks z;
+          processors = by .processors z;
+          budget = by .budget z;
+          deadline = by .deadline z;
+          price = λ j. same-everywhere (by .processors) (W′-ends .price) (ends-multiplied b (W-ends .price)) (by .price) j z;
+          minutes = λ i j.
+              same-everywhere (by .tasks) (W′-ends .task j) (ends-multiplied a (W-ends .task j)) (λ k l.
+              same-everywhere (by .processors) (W′-ends .processor k) (ends-multiplied a (W-ends .processor k)) (λ p m. by .minutes k p l m) j) i z;
+          edges = by .edges z;
+          from = λ e. same-everywhere (by .edges) (W′-ends .from) (W-ends .from) (by .from) e z;
+          to = λ e. same-everywhere (by .edges) (W′-ends .to) (W-ends .to) (by .to) e z;
+          transfer = λ e. same-everywhere (by .edges) (W′-ends .transfer) (ends-multiplied a (W-ends .transfer)) (by .transfer) e z;
+        }
+
+    outcomes : outcome t (length lent′) ≡ multiplied-outcome a b (outcome s (length lent))
+    outcomes =
+        outcome-of-good t good′ (length lent′)
+        ∙ ap₂ (outcome-by HBCS) workflows lengths
+        ∙ outcome-by-multiplied a b pa (workflow s r) pb HBCS HBCS-keeps-choices (length lent)
+        ∙ ap (multiplied-outcome a b) (sym (outcome-of-good s good (length lent)))
+
+-- Times that were counted in fives of minutes become minutes, and prices 20 times what they were: then the budget is 100 times what it was.
+pub budget-a-hundred-times : {W W′ : Workflow} → MultipliedBy 5 20 W W′ → W′ .budget ≡ 100 * W .budget
+budget-a-hundred-times by = by .budget
+
+-- The same plan, with the numbers spelt out.
+pub record InMinutes (s t : List ℕ) (lent lent′ : List Row) : Type 0 where
+  pub same-plan : SamePlan 5 20 s t lent lent′
+  pub plan : (n l c left : ℕ) → answer s (length lent) ≡ planned n l c left → answer t (length lent′) ≡ planned n (5 * l) (100 * c) (100 * left)
+  pub too-dear : (place : ℕ) → answer s (length lent) ≡ refused 9 place → answer t (length lent′) ≡ refused 9 (100 * place)
+  pub too-long : (place : ℕ) → answer s (length lent) ≡ refused 11 place → answer t (length lent′) ≡ refused 11 (5 * place)
+  pub otherwise :
+      (number place : ℕ) → number ≢ 9 → number ≢ 11 → answer s (length lent) ≡ refused number place
+      → answer t (length lent′) ≡ refused number place
+
+pub from-five-minutes-to-minutes :
+    (s t : List ℕ) {end end′ : ℕ} {r r′ : Request} → read-request s ≡ read end r → read-request t ≡ read end′ r′
+    → MultipliedBy 5 20 (workflow s r) (workflow t r′) → (lent lent′ : List Row) → length lent′ ≡ length lent → InMinutes s t lent lent′
+unfolding multiplied-answer multiplied-place
+from-five-minutes-to-minutes s t good good′ by lent lent′ lengths =
+    let same = multiplied-requests 5 20 (omega arith) (omega arith) s t good good′ by lent lent′ lengths in
+    record {
+      same-plan = same;
+      plan = λ n l c left e. same .answers ∙ ap (multiplied-answer 5 20) e;
+      too-dear = λ place e. same .answers ∙ ap (multiplied-answer 5 20) e;
+      too-long = λ place e. same .answers ∙ ap (multiplied-answer 5 20) e;
+      otherwise = λ number place not-9 not-11 e. same .answers ∙ ap (multiplied-answer 5 20) e ∙ rw (ne-eqb number 9 not-9, ne-eqb number 11 not-11);
+    }

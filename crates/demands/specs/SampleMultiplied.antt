@@ -1,0 +1,68 @@
+-- The hypotheses of demand 3 hold of document 01's sample and its times by 3 and prices by 2: both pass reading and one is the other multiplied.
+use Prim.Native.Nat.{ℕ, zero, suc, _*_, _<_}
+use mathlib.Core.Path.{_≡_, refl}
+use mathlib.Core.List.{List, []}
+use native.Mathlib.Omega.{arith}
+use Rattle.rules.specs.Records.{read}
+use Rattle.rules.specs.Reading.{no-deadline, Request, read-request}
+use Rattle.rules.specs.Workflow.{workflow}
+use Rattle.rules.specs.Multiplied.{multiplied-deadline}
+use Rattle.rules.specs.Cases.{given}
+use Rattle.rules.specs.Starred.{sample, S}
+use Rattle.demands.specs.Demand3.{MultipliedBy}
+
+below-two : (P : ℕ → Type 0) → P 0 → P 1 → (i : ℕ) → i < 2 → P i
+below-two P at-0 at-1 zero l = at-0
+below-two P at-0 at-1 (suc zero) l = at-1
+below-two P at-0 at-1 (suc (suc i)) l = absurd (omega arith)
+
+below-three : (P : ℕ → Type 0) → P 0 → P 1 → P 2 → (i : ℕ) → i < 3 → P i
+below-three P at-0 at-1 at-2 zero l = at-0
+below-three P at-0 at-1 at-2 (suc i) l = below-two (λ k. P (suc k)) at-1 at-2 i (omega arith)
+
+-- What reading makes of the sample with this budget.
+sampled : ℕ → Request
+sampled budget =
+    record { tasks = 3; processors = 2; budget = budget; deadline = no-deadline; prices-at = 7; tasks-at = 13; edges-at = 73; edges = 2 }
+
+abbrev pub tripled : List ℕ
+tripled = sample 3 2 168 "prep    " [] []
+
+-- Two requests that demand 3 speaks of.
+pub record BothGood (a b : ℕ) (s t : List ℕ) : Type 0 where
+  pub end : ℕ
+  pub end′ : ℕ
+  pub r : Request
+  pub r′ : Request
+  pub good : read-request s ≡ read end r
+  pub good′ : read-request t ≡ read end′ r′
+  pub multiplied : MultipliedBy a b (workflow s r) (workflow t r′)
+
+pub sample-both-good : BothGood 3 2 (S 28) tripled
+unfolding given sample S sampled multiplied-deadline
+sample-both-good =
+    record {
+      end = 84;
+      end′ = 84;
+      r = sampled 28;
+      r′ = sampled 168;
+      good = refl;
+      good′ = refl;
+      multiplied = record {
+        tasks = refl;
+        processors = refl;
+        budget = refl;
+        deadline = refl;
+        price = below-two _ refl refl;
+        minutes = λ i j l m.
+            below-three (λ x. (y : ℕ) → y < 2 → workflow tripled (sampled 168) .minutes x y ≡ 3 * workflow (S 28) (sampled 28) .minutes x y)
+            (below-two _ refl refl)
+            (below-two _ refl refl)
+            (below-two _ refl refl)
+            i l j m;
+        edges = refl;
+        from = below-two _ refl refl;
+        to = below-two _ refl refl;
+        transfer = below-two _ refl refl;
+      };
+    }

@@ -1,0 +1,1 @@
+// The three demands as theorems about the definitions: no code, only specs/.

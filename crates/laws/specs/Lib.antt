@@ -1,0 +1,16 @@
+pub mod Tests
+pub mod Numbers
+pub mod Fold
+pub mod Folds
+pub mod Any
+pub mod Listing
+pub mod Orders
+pub mod First
+pub mod Strict
+pub mod Method
+pub mod Leads
+pub mod Cycles
+pub mod Onward
+pub mod Unmarked
+pub mod Ranks
+pub mod Stores
