@@ -1,0 +1,30 @@
+-- The first test fails, or the second decides.
+use borrow.Author.Tests.{le-leb, lt-leb}
+use Rattle.choosing.specs.Figured.{may-by}
+use borrow.Author.Needs.{needs}
+use Rattle.choosing.proofs.figures.may_be_taken.Statement.{statement}
+use Rattle.choosing.proofs.figures.may_be_taken.Tie as tie
+use Rattle.choosing.proofs.figures.may_be_taken.Reads as reads
+use Rattle.choosing.proofs.figures.may_be_taken.Lts as lts
+use Rattle.choosing.proofs.figures.affordable.Reads as affordable-reads
+
+-- src/figures.rt:87:9
+returns : tie.Need-returns
+unfolding may-by
+returns c =
+    let a = c .before .before .args in
+    rw (lt-leb (a .cost) (a .g .best) (c .if1 .taken))
+
+-- src/figures.rt:89:5
+affordable-requires : tie.Need-affordable-requires
+affordable-requires c κs = search needs
+
+-- src/figures.rt:82:1
+returns-2 : tie.Need-returns-2
+unfolding may-by
+returns-2 c =
+    let a = c .before .before .before .args in
+    rw (le-leb (a .cost) (a .g .best) (c .before .if1 .left)) (c .affordable .ensures)
+
+pub may-be-taken-spec : {M : Type 1} → statement M
+may-be-taken-spec = tie.close (tie.spec returns affordable-requires returns-2)

@@ -1,0 +1,41 @@
+-- By what the score and the test ensure.
+use Prim.Native.Nat.{ℕ, _+_}
+use mathlib.Core.Bool.{Bool, cond}
+use mathlib.Core.Path.{_∙_, ap₂}
+use Rattle.choosing.specs.Figured.{standing-by}
+use borrow.Author.Needs.{needs}
+use Rattle.choosing.proofs.figures.standing.Statement.{statement}
+use Rattle.choosing.proofs.figures.standing.Tie as tie
+use Rattle.choosing.proofs.figures.standing.Reads as reads
+use Rattle.choosing.proofs.figures.standing.Lts as lts
+use Rattle.choosing.proofs.figures.may_be_taken.Reads as may-be-taken-reads
+use Rattle.choosing.proofs.figures.score.Reads as score-reads
+use Rattle.choosing.proofs.numbers.either.Reads as either-reads
+
+-- src/figures.rt:129:17
+score-requires : tie.Need-score-requires
+score-requires c κs = search needs
+
+-- src/figures.rt:129:17
+add-above : tie.Need-add-above
+add-above c = search needs
+
+-- src/figures.rt:130:21
+may-be-taken-requires : tie.Need-may-be-taken-requires
+may-be-taken-requires c κs = search needs
+
+-- src/figures.rt:130:5
+either-requires : tie.Need-either-requires
+either-requires c κs = search needs
+
+-- src/figures.rt:123:1
+returns : tie.Need-returns
+unfolding standing-by
+returns c =
+    let may = c .before .may-be-taken in
+    let score = c .before .before .score in
+    c .either .ensures ∙ ap₂ (λ (t : Bool) (x : ℕ). cond t (x + 1) 0) (may .ensures) (score .ensures .0)
+
+pub standing-spec : {M : Type 1} → statement M
+standing-spec =
+    tie.close (tie.spec score-requires add-above may-be-taken-requires either-requires returns)

@@ -1,0 +1,130 @@
+-- The leader of the processors passed, one processor after the other, and the choice that the last leader stands for.
+use Prim.Native.Nat.{ℕ, suc, _+_, _≤_, _<_}
+use mathlib.Core.Path.{_≡_, refl, sym, _∙_}
+use mathlib.Core.Bool.{Bool, true, false, cond, _||_}
+use mathlib.Core.Logic.{⊎-elim}
+use native.Mathlib.Nat.{eq-or-lt-of-le}
+use native.Mathlib.Numerals.{add-one}
+use native.Mathlib.Omega.{arith}
+use lib.Dec.{ltb, leb·suc-suc, eqb·suc-suc}
+use borrow.Author.Tests.{lt-ltb, le-ltb, eq-eqb, ne-eqb}
+use Rattle.rules.specs.Orders.{higher, among, first}
+use Rattle.rules.specs.Method.{Question, may-be-taken, score, preferred, HBCS}
+use Rattle.laws.specs.Tests.{cond-either}
+use Rattle.laws.specs.Numbers.{below-next}
+use Rattle.laws.specs.Orders.{lower-tie}
+use Rattle.laws.specs.First.{first-at-most, first-below, first-next}
+use Rattle.choosing.specs.Figured.{standing}
+use Rattle.choosing.specs.Leading.{ahead-by, led-by, taken-by, Leads, nobody, somebody}
+use Rattle.choosing.specs.declared.Leader.{Leader}
+
+-- A higher standing is ahead, and an even one with an earlier finish.
+module _ (l : Leader) (s f : ℕ) where
+  pub ahead-uneven : (s ≡ l .standing → ⊥) → ltb (l .standing) s ≡ ahead-by l s f
+  unfolding ahead-by
+  ahead-uneven h = rw (ne-eqb s (l .standing) h) (go (ltb (l .standing) s))
+    where
+      go : (t : Bool) → t ≡ (t || false)
+      go true = refl
+      go false = refl
+
+  pub ahead-even : s ≡ l .standing → ltb f (l .finish) ≡ ahead-by l s f
+  unfolding ahead-by
+  ahead-even h = rw (le-ltb (l .standing) s (omega arith), eq-eqb s (l .standing) h)
+
+  -- One that is ahead leads; else the leader stays.
+  module _ (j : ℕ) where
+    leads : ahead-by l s f ≡ true → led-by l j s f ≡ record { processor = j; standing = s; finish = f }
+    unfolding led-by
+    leads h = rw h
+
+    stays : ahead-by l s f ≡ false → led-by l j s f ≡ l
+    unfolding led-by
+    stays h = rw h
+
+  pub led-by-parts : (t : Bool) (j : ℕ) → t ≡ ahead-by l s f
+      → record { processor = cond t j (l .processor); standing = cond t s (l .standing); finish = cond t f (l .finish) } ≡ led-by l j s f
+  led-by-parts true j h = sym (leads j (sym h))
+  led-by-parts false j h = sym (stays j (sym h))
+
+module _ (q : Question) where
+  pub leads-first : (l : Leader) → l .standing ≡ 0 → l .finish ≡ 0 → Leads q 0 l
+  leads-first l s f = nobody s f (λ i h. absurd (omega arith))
+
+  module _ (k : ℕ) where
+    standing-none : may-be-taken q k ≡ false → standing q k ≡ 0
+    unfolding standing
+    standing-none h = rw h
+
+    standing-some : may-be-taken q k ≡ true → standing q k ≡ score q k + 1
+    unfolding standing
+    standing-some h = rw h
+
+    -- The only one that may be taken is the first.
+    first-only : may-be-taken q k ≡ true → ((i : ℕ) → i < k → may-be-taken q i ≡ false) → k ≡ first (k + 1) (preferred q)
+    unfolding preferred among
+    first-only may none = first-next k (preferred q) refl (go (first k (preferred q)) (first-at-most k (preferred q)))
+      where
+        go : (b : ℕ) → b ≤ k → k ≡ cond (preferred q k b) k b
+        go b h =
+            ⊎-elim (λ (e : b ≡ k). cond-either (λ z. k ≡ z) (preferred q k b) k b (λ _. refl) (λ _. sym e))
+            (λ (l : b < k). rw (may, none b l))
+            (eq-or-lt-of-le h)
+
+    module _ (l : Leader) where
+      -- Where both may be taken, the tests are the same.
+      ahead-is-preferred : may-be-taken q k ≡ true → may-be-taken q (l .processor) ≡ true → l .standing ≡ score q (l .processor) + 1
+          → l .finish ≡ q .finish (l .processor) → ahead-by l (score q k + 1) (q .finish k) ≡ preferred q k (l .processor)
+      unfolding ahead-by preferred among higher
+      ahead-is-preferred at-k at-l s f =
+          rw (
+            at-k,
+            at-l,
+            s,
+            f,
+            lower-tie (q .finish) k (l .processor),
+            add-one (score q k),
+            add-one (score q (l .processor)),
+            leb·suc-suc (suc (score q (l .processor))) (score q k),
+            eqb·suc-suc (score q k) (score q (l .processor)),
+          )
+
+      -- Each may be taken or not.
+      led-on : Leads q k l → (t : Bool) → may-be-taken q k ≡ t → Leads q (k + 1) (led-by l k (standing q k) (q .finish k))
+      led-on (nobody s f none) false at-k =
+          let even = sym (ahead-even l 0 (q .finish k) (sym s)) ∙ le-ltb (q .finish k) (l .finish) (omega arith) in
+          rw (standing-none at-k, stays l 0 (q .finish k) k even)
+          (nobody s f (λ i h. below-next (λ n. may-be-taken q n ≡ false) k at-k none i (omega arith)))
+      led-on (nobody s f none) true at-k =
+          let higher-standing =
+          sym (ahead-uneven l (score q k + 1) (q .finish k) (λ e. omega arith)) ∙ lt-ltb (l .standing) (score q k + 1) (omega arith) in
+          rw (standing-some at-k, leads l (score q k + 1) (q .finish k) k higher-standing)
+          (somebody (first-only at-k none) at-k refl refl)
+      led-on (somebody p may s f) false at-k =
+          let lower-standing = sym (ahead-uneven l 0 (q .finish k) (λ e. omega arith)) ∙ le-ltb (l .standing) 0 (omega arith) in
+          rw (standing-none at-k, stays l 0 (q .finish k) k lower-standing)
+          (somebody (first-next k (preferred q) p (unfold preferred among in rw at-k)) may s f)
+      led-on (somebody p may s f) true at-k = rw (standing-some at-k) (both (preferred q k (l .processor)) refl)
+        where
+          both : (t : Bool) → preferred q k (l .processor) ≡ t → Leads q (k + 1) (led-by l k (score q k + 1) (q .finish k))
+          both true e =
+              rw (leads l (score q k + 1) (q .finish k) k (ahead-is-preferred at-k may s f ∙ e))
+              (somebody (first-next k (preferred q) p (rw e)) at-k refl refl)
+          both false e =
+              rw (stays l (score q k + 1) (q .finish k) k (ahead-is-preferred at-k may s f ∙ e))
+              (somebody (first-next k (preferred q) p (rw e)) may s f)
+
+      -- One turn of the pass.
+      pub leads-next : Leads q k l → {s : ℕ} {r : Leader} → s ≡ standing q k → r ≡ led-by l k s (q .finish k) → Leads q (k + 1) r
+      leads-next lead at-k e = rw (e, at-k) (led-on lead (may-be-taken q k) refl)
+
+  -- The last leader is the choice.
+  pub leads-all : 1 ≤ q .processors → (l : Leader) → Leads q (q .processors) l → taken-by l ≡ HBCS q
+  unfolding taken-by HBCS
+  leads-all some l (nobody s f none) =
+      rw (
+        eq-eqb (l .standing) 0 s,
+        none (first (q .processors) (preferred q)) (first-below (q .processors) (preferred q) some),
+      )
+  leads-all some l (somebody p may s f) =
+      rw (ne-eqb (l .standing) 0 (λ e. omega arith), ← p, may)

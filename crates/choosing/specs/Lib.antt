@@ -1,0 +1,5 @@
+pub mod Asked
+pub mod Figured
+pub mod FiguredLaws
+pub mod Leading
+pub mod LeadingLaws
