@@ -1,0 +1,101 @@
+-- All edges passed on the way back are of this task or of later ones.
+use mathlib.Core.Path.{_≡_}
+use Prim.Native.Nat.{ℕ, _-_, _≤_, _<_}
+use Rattle.rules.specs.Workflow.{workflow}
+use Rattle.lookup.specs.Lookup.{workflow-of}
+use Rattle.ranking.specs.Views.{view-in-range}
+use Rattle.ranking.specs.Begins.{begins-after, begins-at-start, onward-from}
+use borrow.Author.Needs.{needs}
+use native.Mathlib.Omega.{arith}
+use Rattle.ranking.proofs.begin_of.Statement.{statement}
+use Rattle.ranking.proofs.begin_of.Tie as tie
+use Rattle.ranking.proofs.begin_of.Reads as reads
+use Rattle.ranking.proofs.begin_of.Lts as lts
+use Rattle.lookup.proofs.from.Reads as from-reads
+
+abbrev Inv-loop : tie.InvT-loop
+Inv-loop s v task end begin₀ begin =
+    (begin ≤ v .edges) × ((e : ℕ) → begin ≤ e → e < v .edges → task ≤ workflow-of s v .from e)
+
+abbrev μ-loop : tie.MeasureT-loop
+μ-loop s v task end begin₀ begin = begin
+
+-- src/lib.rt:51:5
+loop-holds : tie.Need-loop-holds Inv-loop μ-loop
+unfolding workflow
+loop-holds c =
+    let pre = c .before .pre in
+    let last = pre .1 in
+    (last .within, λ e l below. omega (arith, last .onward e l below))
+
+-- src/lib.rt:52:22
+sub-before : tie.Need-sub-before Inv-loop μ-loop
+sub-before c = omega arith
+
+-- src/lib.rt:53:12
+from-requires : tie.Need-from-requires Inv-loop μ-loop
+from-requires c κs = (c .before .before .before .pre .0, omega arith)
+
+-- src/lib.rt:54:13
+returns : tie.Need-returns Inv-loop μ-loop
+unfolding workflow
+returns c =
+    let pre = c .before .before .before .before .before .pre in
+    let a = c .before .before .before .before .before .args in
+    let loop = c .before .before .before .loop in
+    let from = c .before .from in
+    let if1 = c .if1 in
+    let W = workflow-of (a .s .now) (a .v) in
+    let range = view-in-range (a .s .now) (a .v) (pre .0) in
+    let begin = loop .begin in
+    let inv = loop .inv in
+    let earlier : W .from (begin - 1) < a .task = omega (arith, from .ensures .0, if1 .taken) in
+    begins-after W range (a .task) (begin - 1) begin (omega arith) (inv .0) earlier (inv .1)
+
+-- src/lib.rt:51:5
+loop-less : tie.Need-loop-less Inv-loop μ-loop
+loop-less c = omega arith
+
+-- src/lib.rt:51:5
+loop-again : tie.Need-loop-again Inv-loop μ-loop
+unfolding workflow
+loop-again c =
+    let pre = c .before .before .before .before .before .pre in
+    let a = c .before .before .before .before .before .args in
+    let loop = c .before .before .before .loop in
+    let from = c .before .from in
+    let if1 = c .if1 in
+    let W = workflow-of (a .s .now) (a .v) in
+    let range = view-in-range (a .s .now) (a .v) (pre .0) in
+    let begin = loop .begin in
+    let inv = loop .inv in
+    let not-earlier : a .task ≤ W .from (begin - 1) = omega (arith, from .ensures .0, if1 .left) in (
+      omega arith,
+      onward-from W range (a .task) (begin - 1) begin (omega arith) not-earlier (inv .1),
+    )
+
+-- src/lib.rt:45:1
+returns-2 : tie.Need-returns-2 Inv-loop μ-loop
+unfolding workflow
+returns-2 c =
+    let pre = c .before .before .before .pre in
+    let a = c .before .before .before .args in
+    let loop = c .before .loop in
+    let W = workflow-of (a .s .now) (a .v) in
+    let range = view-in-range (a .s .now) (a .v) (pre .0) in
+    let start : loop .begin ≡ 0 = omega arith in
+    rw start (begins-at-start W range (a .task) (rw start at (loop .inv .1)))
+
+pub begin-of-spec : {M : Type 1} → statement M
+begin-of-spec =
+    tie.close
+    (tie.spec
+    Inv-loop
+    μ-loop
+    loop-holds
+    sub-before
+    from-requires
+    returns
+    loop-less
+    loop-again
+    returns-2)

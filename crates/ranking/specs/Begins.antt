@@ -1,0 +1,63 @@
+-- Where the edges of a task begin, and those of the task before it end: edges rise by from.
+use Prim.Native.Nat.{ℕ, zero, suc, _+_, _-_, _≤_, _<_}
+use mathlib.Core.Path.{_≡_, refl}
+use native.Mathlib.Omega.{arith}
+use native.Mathlib.Nat.{add-zero}
+use native.Mathlib.Decide.{decLe}
+use mathlib.Core.Logic.{_⊎_, inl, inr, ⊎-elim}
+use Rattle.rules.specs.Workflow.{Workflow}
+use Rattle.good.specs.Ranges.{InRange}
+
+pub record Begins (W : Workflow) (task at : ℕ) : Type 0 where
+  pub within : at ≤ W .edges
+  pub before : (e : ℕ) → e < at → W .from e < task
+  pub onward : (e : ℕ) → at ≤ e → e < W .edges → task ≤ W .from e
+
+pub below-or-on : (e at : ℕ) → (e ≤ at) ⊎ (at + 1 ≤ e)
+below-or-on e at = go (decLe e at)
+  where
+    go : Dec (e ≤ at) → (e ≤ at) ⊎ (at + 1 ≤ e)
+    go (yes h) = inl h
+    go (no h) = inr (omega arith)
+
+module _ (W : Workflow) (range : InRange W) where
+  from-rises-by : (d e : ℕ) → e + d < W .edges → W .from e ≤ W .from (e + d)
+  from-rises-by zero e l = rw (add-zero e) (omega arith)
+  from-rises-by (suc d) e l =
+      let onward : W .from e ≤ W .from (e + d) = from-rises-by d e (omega arith) in
+      let step : W .from (e + d) ≤ W .from (e + d + 1) = range .from-rises (e + d) (omega arith) in
+      let place : e + suc d ≡ e + d + 1 = omega arith in
+      rw place (omega arith)
+
+  from-rises-to : (e last : ℕ) → e ≤ last → last < W .edges → W .from e ≤ W .from last
+  from-rises-to e last l below =
+      let place : e + (last - e) ≡ last = omega arith in
+      rw place at (from-rises-by (last - e) e (omega arith))
+
+  -- Past the last task there are no edges.
+  pub begins-at-end : Begins W (W .tasks) (W .edges)
+  begins-at-end =
+      record { within = omega arith; before = range .from-below; onward = λ e l m. absurd (omega arith) }
+
+  module _ (task : ℕ) where
+    -- Back to an edge of an earlier task, just before `at`.
+    pub begins-after : (last at : ℕ) → last + 1 ≡ at → at ≤ W .edges → W .from last < task
+        → ((e : ℕ) → at ≤ e → e < W .edges → task ≤ W .from e) → Begins W task at
+    begins-after last at place within earlier onward =
+        record { within = within; before = λ e l. omega (arith, from-rises-to e last (omega arith) (omega arith)); onward = onward }
+
+    -- Back to the first edge.
+    pub begins-at-start : ((e : ℕ) → 0 ≤ e → e < W .edges → task ≤ W .from e) → Begins W task 0
+    begins-at-start onward = record { within = omega arith; before = λ e l. absurd (omega arith); onward = onward }
+
+    -- One edge more passed, on the way back.
+    pub onward-from : (at next : ℕ) → at + 1 ≡ next → task ≤ W .from at → ((e : ℕ) → next ≤ e → e < W .edges → task ≤ W .from e)
+        → (e : ℕ) → at ≤ e → e < W .edges → task ≤ W .from e
+    onward-from at next place here onward e l below =
+        ⊎-elim (λ (q : e ≤ at). let same : e ≡ at = omega arith in rw same here) (λ (q : at + 1 ≤ e). onward e (omega arith) below)
+        (below-or-on e at)
+
+    -- The edges between where two tasks' edges begin.
+    pub from-between : (begin end e : ℕ) → Begins W task begin → Begins W (task + 1) end → begin ≤ e → e < end → W .from e ≡ task
+    from-between begin end e first last l below =
+        omega (arith, first .onward e l (omega (arith, last .within)), last .before e below)

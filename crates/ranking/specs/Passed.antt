@@ -1,0 +1,104 @@
+-- The edges of a task, passed one after the other: what the largest over them comes to, while each leads to a task that has its rank.
+use Prim.Native.Nat.{ℕ, zero, suc, _+_, _*_, _-_, _≤_, _<_, max}
+use mathlib.Core.Path.{_≡_, refl, sym, ap, _∙_}
+use mathlib.Core.List.{List}
+use mathlib.Core.Logic.{⊎-elim}
+use native.Mathlib.Nat.{add-zero}
+use native.Mathlib.Omega.{arith}
+use borrow.Author.Tests.{eq-eqb, ne-eqb}
+use Rattle.rules.specs.Folds.{sum, largest}
+use Rattle.rules.specs.Workflow.{Workflow}
+use Rattle.rules.specs.Ranks.{rank-by}
+use Rattle.good.specs.Ranges.{InRange}
+use Rattle.laws.specs.Folds.{largest-next, largest-of-none}
+use Rattle.ranking.specs.Begins.{Begins, below-or-on, from-between}
+use Rattle.ranking.specs.Ranked.{at, Unknown, NextRank}
+use Rattle.ranking.specs.RankedLaws.{over-edge, transfer-within, rank-at-least-one}
+
+-- Those from `begin` to before e are passed, of those that end at `end`.
+pub record Passed (W : Workflow) (ranks : List ℕ) (task begin end e most : ℕ) : Type 0 where
+  pub from-begin : begin ≤ e
+  pub to-end : e ≤ end
+  pub largest-is : most ≡ largest e (over-edge W (at ranks) task)
+  pub known : (k : ℕ) → begin ≤ k → k < e → 1 ≤ at ranks (W .to k)
+  pub at-most : most ≤ 3_088_000
+
+-- From k on there is nothing but 0.
+largest-further : (k d : ℕ) (f : ℕ → ℕ) → ((i : ℕ) → k ≤ i → i < k + d → f i ≡ 0) → largest (k + d) f ≡ largest k f
+unfolding largest
+largest-further k zero f none = rw (add-zero k)
+largest-further k (suc d) f none =
+    let place : k + suc d ≡ suc (k + d) = omega arith in
+    let before : largest (k + d) f ≡ largest k f = largest-further k d f (λ i l m. none i l (omega arith)) in
+    rw place (omega (arith, none (k + d) (omega arith) (omega arith)))
+
+module _ (W : Workflow) (range : InRange W) (ranks : List ℕ) (task begin end : ℕ)
+    (first : Begins W task begin) (last : Begins W (task + 1) end) where
+  pub passed-none : Passed W ranks task begin end begin 0
+  passed-none =
+      record {
+        from-begin = omega arith;
+        to-end =
+            ⊎-elim (λ (q : begin ≤ end). q)
+            (λ (q : end + 1 ≤ begin).
+            omega (arith, first .before end (omega arith), last .onward end (omega arith) (omega (arith, first .within))))
+            (below-or-on begin end);
+        largest-is =
+            sym
+            (largest-of-none begin (over-edge W (at ranks) task) (λ k l. rw (ne-eqb (W .from k) task (λ q. omega (arith, first .before k l)))));
+        known = λ k l m. absurd (omega arith);
+        at-most = omega arith;
+      }
+
+  module _ (e : ℕ) (below : e < end) where
+    edge-below : e < W .edges
+    edge-below = omega (arith, last .within)
+
+    pub passed-more :
+        {most onward next : ℕ} → Passed W ranks task begin end e most → onward ≡ at ranks (W .to e) → 1 ≤ onward → onward ≤ 3_072_000
+        → next ≡ max most (W .processors * W .transfer e + onward) → Passed W ranks task begin end (e + 1) next
+    passed-more {most} {onward} {next} so-far there known few is =
+        let from : W .from e ≡ task = from-between W range task begin end e first last (so-far .from-begin) below in
+        let adds : W .processors * W .transfer e + onward ≡ over-edge W (at ranks) task e =
+        ap (λ z. W .processors * W .transfer e + z) there ∙ rw (eq-eqb (W .from e) task from) in
+        record {
+          from-begin = omega (arith, so-far .from-begin);
+          to-end = omega arith;
+          largest-is = largest-next e (over-edge W (at ranks) task) (so-far .largest-is) (is ∙ ap (max most) adds);
+          known =
+              λ k l m.
+              ⊎-elim (λ (q : e ≤ k). let same : k ≡ e = omega arith in rw same (omega arith)) (λ (q : k + 1 ≤ e). so-far .known k l (omega arith))
+              (below-or-on e k);
+          at-most = omega (arith, so-far .at-most, transfer-within W range e);
+        }
+
+    pub held-up-here : begin ≤ e → at ranks (W .to e) ≡ 0 → NextRank W ranks task 0
+    held-up-here l unknown =
+        record {
+          due = λ known. absurd (omega arith);
+          not-due = λ none. (e, edge-below, from-between W range task begin end e first last l below, unknown);
+        }
+
+  pub passed-all :
+      task < W .tasks → {most r : ℕ} → Passed W ranks task begin end end most → r ≡ sum (W .processors) (W .minutes task) + most
+      → NextRank W ranks task r
+  unfolding rank-by
+  passed-all below {most} {r} all is =
+      let count : end + (W .edges - end) ≡ W .edges = omega (arith, last .within) in
+      let rest : largest (W .edges) (over-edge W (at ranks) task) ≡ largest end (over-edge W (at ranks) task) =
+      rw count at
+      (largest-further end (W .edges - end) (over-edge W (at ranks) task)
+      (λ k l m. rw (ne-eqb (W .from k) task (λ q. omega (arith, last .onward k l (omega arith)))))) in
+      let equation : r ≡ rank-by W (at ranks) task = is ∙ ap (λ z. sum (W .processors) (W .minutes task) + z) (all .largest-is ∙ sym rest) in
+      record {
+        due = λ known. (equation, λ e b from. all .known e (not-before e from) (not-after e b from));
+        not-due = λ none. absurd (omega (arith, equation, rank-at-least-one W range (at ranks) task below));
+      }
+    where
+      not-before : (e : ℕ) → W .from e ≡ task → begin ≤ e
+      not-before e from =
+          ⊎-elim (λ (q : begin ≤ e). q) (λ (q : e + 1 ≤ begin). omega (arith, first .before e (omega arith))) (below-or-on begin e)
+
+      not-after : (e : ℕ) → e < W .edges → W .from e ≡ task → e < end
+      not-after e b from =
+          ⊎-elim (λ (q : end ≤ e). omega (arith, last .onward e q b)) (λ (q : e + 1 ≤ end). omega arith) (below-or-on end e)

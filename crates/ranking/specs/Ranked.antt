@@ -1,0 +1,51 @@
+-- Ranks as far as they are known. Every rank is at least 1, so 0 stands for a rank that is not known yet.
+use Prim.Native.Nat.{ℕ, _+_, _*_, _≤_, _<_}
+use mathlib.Core.Path.{_≡_}
+use mathlib.Core.Bool.{Bool, true, not}
+use mathlib.Core.List.{List}
+use lib.Dec.{ltb}
+use lib.ListN.{length, getD}
+use Rattle.rules.specs.Workflow.{Workflow}
+use Rattle.rules.specs.Cycle.{cyclic}
+use Rattle.rules.specs.Ranks.{rank-by, R}
+use Rattle.laws.specs.Unmarked.{count-unmarked}
+use Rattle.laws.specs.Onward.{HasNext}
+use Rattle.ranking.specs.declared.Ranked.{Ranked}
+
+abbrev pub at : List ℕ → ℕ → ℕ
+at ranks i = getD ranks i 0
+
+-- Task i has its rank.
+abbrev pub has-rank : List ℕ → ℕ → Bool
+has-rank ranks i = ltb 0 (at ranks i)
+
+-- The ranks that are known are right by the equation, those of a ranked task's successors are known, and `left` tasks are not ranked.
+pub record RankedSoFar (W : Workflow) (ranks : List ℕ) (left : ℕ) : Type 0 where
+  pub size : length ranks ≡ 64
+  pub count : left ≡ count-unmarked (W .tasks) (has-rank ranks)
+  pub equation : (i : ℕ) → i < W .tasks → 1 ≤ at ranks i → at ranks i ≡ rank-by W (at ranks) i
+  pub successors : (e : ℕ) → e < W .edges → 1 ≤ at ranks (W .from e) → 1 ≤ at ranks (W .to e)
+  pub at-most : (i : ℕ) → at ranks i + 48_000 * left ≤ 48_000 * W .tasks
+
+-- A rank that is not known.
+abbrev pub Unknown : List ℕ → ℕ → Type 0
+Unknown ranks i = at ranks i ≡ 0
+
+-- r is the rank of i where its successors' ranks are known, and else 0.
+pub record NextRank (W : Workflow) (ranks : List ℕ) (i r : ℕ) : Type 0 where
+  pub due : 1 ≤ r → (r ≡ rank-by W (at ranks) i) × ((e : ℕ) → e < W .edges → W .from e ≡ i → 1 ≤ at ranks (W .to e))
+  pub not-due : r ≡ 0 → HasNext W (Unknown ranks) i
+
+-- Where i is not ranked, a successor is not.
+abbrev pub HeldUp : Workflow → List ℕ → ℕ → Type 0
+HeldUp W ranks i = Unknown ranks i → HasNext W (Unknown ranks) i
+
+-- That holds of every task from `first` on.
+abbrev pub AllHeldUp : Workflow → ℕ → List ℕ → Type 0
+AllHeldUp W first ranks = (i : ℕ) → first ≤ i → i < W .tasks → HeldUp W ranks i
+
+-- "R(i) = ..", for all tasks unless the edges have a cycle. Each rank is at most 64 times (16 times 2,000 and 16 times 1,000).
+pub record RankedAs (W : Workflow) (r : Ranked) : Type 0 where
+  pub all-unless-cyclic : r .all ≡ not (cyclic W)
+  pub ranks-are : r .all ≡ true → (i : ℕ) → i < W .tasks → getD (r .ranks) i 0 ≡ R W i
+  pub at-most : (i : ℕ) → getD (r .ranks) i 0 ≤ 3_072_000
