@@ -3,3 +3,4 @@ pub mod Figured
 pub mod FiguredLaws
 pub mod Leading
 pub mod LeadingLaws
+pub mod Settled
