@@ -2,6 +2,8 @@ pub mod Views
 pub mod Turned
 pub mod Begins
 pub mod Ranked
+pub mod RankBounds
+pub mod RankedMore
 pub mod RankedLaws
 pub mod Passed
 pub mod Marked

@@ -1,6 +1,6 @@
 -- The edges of a task, passed one after the other: what the largest over them comes to, while each leads to a task that has its rank.
 use Prim.Native.Nat.{ℕ, zero, suc, _+_, _*_, _-_, _≤_, _<_, max}
-use mathlib.Core.Path.{_≡_, refl, sym, ap, _∙_}
+use mathlib.Core.Path.{_≡_, sym, ap, _∙_}
 use mathlib.Core.List.{List}
 use mathlib.Core.Logic.{⊎-elim}
 use native.Mathlib.Nat.{add-zero}
@@ -12,8 +12,8 @@ use Rattle.rules.specs.Ranks.{rank-by}
 use Rattle.good.specs.Ranges.{InRange}
 use Rattle.laws.specs.Folds.{largest-next, largest-of-none}
 use Rattle.ranking.specs.Begins.{Begins, below-or-on, from-between}
-use Rattle.ranking.specs.Ranked.{at, Unknown, NextRank}
-use Rattle.ranking.specs.RankedLaws.{over-edge, transfer-within, rank-at-least-one}
+use Rattle.ranking.specs.Ranked.{at, NextRank}
+use Rattle.ranking.specs.RankBounds.{over-edge, transfer-within, rank-at-least-one}
 
 -- Those from `begin` to before e are passed, of those that end at `end`.
 pub record Passed (W : Workflow) (ranks : List ℕ) (task begin end e most : ℕ) : Type 0 where

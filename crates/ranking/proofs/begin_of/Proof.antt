@@ -5,7 +5,6 @@ use Rattle.rules.specs.Workflow.{workflow}
 use Rattle.lookup.specs.Lookup.{workflow-of}
 use Rattle.ranking.specs.Views.{view-in-range}
 use Rattle.ranking.specs.Begins.{begins-after, begins-at-start, onward-from}
-use borrow.Author.Needs.{needs}
 use native.Mathlib.Omega.{arith}
 use Rattle.ranking.proofs.begin_of.Statement.{statement}
 use Rattle.ranking.proofs.begin_of.Tie as tie

@@ -6,7 +6,6 @@ use Rattle.ranking.specs.Views.{view-in-range}
 use Rattle.ranking.specs.Turned.{turned-still, turned-less}
 use Rattle.ranking.specs.Marked.{MarkedSoFar}
 use Rattle.ranking.specs.MarkedLaws.{marked-none, start-marked, all-marked}
-use borrow.Author.Needs.{needs}
 use native.Mathlib.Omega.{arith}
 use Rattle.ranking.proofs.leads_back.Statement.{statement}
 use Rattle.ranking.proofs.leads_back.Tie as tie
@@ -55,12 +54,10 @@ returns c =
 
 -- src/lib.rt:191:5
 loop-less : tie.Need-loop-less Inv-loop μ-loop
-unfolding workflow
 loop-less c = turned-less (c .before .mark-pass .ensures) (c .if1 .left)
 
 -- src/lib.rt:191:5
 loop-again : tie.Need-loop-again Inv-loop μ-loop
-unfolding workflow
 loop-again c = c .before .mark-pass .ensures .kept
 
 -- src/lib.rt:184:1

@@ -8,7 +8,6 @@ use Rattle.rules.specs.Cycle.{back-to-itself}
 use Rattle.lookup.specs.Lookup.{workflow-of}
 use Rattle.ranking.specs.Views.{view-in-range}
 use Rattle.ranking.specs.MarkedLaws.{first-is-lowest, some-before-last}
-use borrow.Author.Needs.{needs}
 use native.Mathlib.Omega.{arith}
 use Rattle.ranking.proofs.lowest_in_cycle.Statement.{statement}
 use Rattle.ranking.proofs.lowest_in_cycle.Tie as tie

@@ -34,7 +34,6 @@ element-copy-out-if1 c =
 
 -- src/lib.rt:159:9
 returns : tie.Need-returns
-unfolding workflow
 returns c =
     let pre = c .before .before .before .before .pre in
     let a = c .before .before .before .before .args in
@@ -98,7 +97,6 @@ returns-2 c =
 
 -- src/lib.rt:152:1
 returns-3 : tie.Need-returns-3
-unfolding workflow
 returns-3 c =
     let pre = c .before .before .before .before .before .before .before .before .pre in
     let a = c .before .before .before .before .before .before .before .before .args in

@@ -1,13 +1,11 @@
 -- Fewer are left, or nothing has changed and all edges passed are followed.
 use mathlib.Core.Path.{_≡_}
 use Prim.Native.Nat.{_-_, _≤_}
-use Rattle.rules.specs.Workflow.{workflow}
 use Rattle.lookup.specs.Lookup.{workflow-of}
 use Rattle.ranking.specs.Views.{view-in-range}
 use Rattle.ranking.specs.Turned.{Turned, turned-none, turned-next}
 use Rattle.ranking.specs.Marked.{MarkedSoFar, AllFollowed}
 use Rattle.ranking.specs.MarkedLaws.{followed-more}
-use borrow.Author.Needs.{needs}
 use native.Mathlib.Omega.{arith}
 use Rattle.ranking.proofs.mark_pass.Statement.{statement}
 use Rattle.ranking.proofs.mark_pass.Tie as tie
@@ -57,7 +55,6 @@ loop-again c =
 
 -- src/lib.rt:169:1
 returns : tie.Need-returns Inv-loop μ-loop
-unfolding workflow
 returns c =
     let a = c .before .before .before .before .args in
     let loop = c .before .before .loop in

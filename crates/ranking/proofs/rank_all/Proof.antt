@@ -6,7 +6,6 @@ use Rattle.ranking.specs.Views.{view-in-range}
 use Rattle.ranking.specs.Turned.{turned-still, turned-less}
 use Rattle.ranking.specs.Ranked.{RankedSoFar}
 use Rattle.ranking.specs.RankedLaws.{ranked-none, ranked-all, ranked-not-all}
-use borrow.Author.Needs.{needs}
 use native.Mathlib.Omega.{arith}
 use Rattle.ranking.proofs.rank_all.Statement.{statement}
 use Rattle.ranking.proofs.rank_all.Tie as tie
@@ -34,7 +33,6 @@ rank-pass-requires c κs = (c .before .before .before .before .pre, c .before .b
 
 -- src/lib.rt:137:13
 returns : tie.Need-returns Inv-loop μ-loop
-unfolding workflow
 returns c =
     let pre = c .before .before .before .before .before .before .pre in
     let a = c .before .before .before .before .before .before .args in
@@ -48,17 +46,14 @@ returns c =
 
 -- src/lib.rt:133:5
 loop-less : tie.Need-loop-less Inv-loop μ-loop
-unfolding workflow
 loop-less c = turned-less (c .before .rank-pass .ensures) (c .if1 .left)
 
 -- src/lib.rt:133:5
 loop-again : tie.Need-loop-again Inv-loop μ-loop
-unfolding workflow
 loop-again c = c .before .rank-pass .ensures .kept
 
 -- src/lib.rt:127:1
 returns-2 : tie.Need-returns-2 Inv-loop μ-loop
-unfolding workflow
 returns-2 c =
     let pre = c .before .before .before .pre in
     let a = c .before .before .before .args in

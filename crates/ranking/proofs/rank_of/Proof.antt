@@ -26,7 +26,6 @@ abbrev μ-loop : tie.MeasureT-loop
 
 -- src/lib.rt:71:5
 loop-holds : tie.Need-loop-holds Inv-loop μ-loop
-unfolding workflow
 loop-holds c =
     let pre = c .before .pre in
     let a = c .before .args in
@@ -59,7 +58,6 @@ element-copy-out-onward c =
 
 -- src/lib.rt:74:13
 returns : tie.Need-returns Inv-loop μ-loop
-unfolding workflow
 returns c =
     let pre = c .before .before .before .before .before .before .pre in
     let a = c .before .before .before .before .before .before .args in
@@ -135,12 +133,10 @@ loop-again c =
 
 -- src/lib.rt:79:5
 all-minutes-requires : tie.Need-all-minutes-requires Inv-loop μ-loop
-unfolding workflow
 all-minutes-requires c κs = (c .before .before .before .pre .0, c .before .before .before .pre .1 .0 .0)
 
 -- src/lib.rt:79:5
 add-result : tie.Need-add-result Inv-loop μ-loop
-unfolding workflow
 add-result c = omega (arith, c .before .before .loop .inv .at-most, c .all-minutes .ensures .1)
 
 -- src/lib.rt:62:1

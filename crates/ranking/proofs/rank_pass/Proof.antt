@@ -8,7 +8,6 @@ use Rattle.ranking.specs.Turned.{Turned, turned-none, turned-next}
 use Rattle.ranking.specs.Begins.{Begins, begins-at-end}
 use Rattle.ranking.specs.Ranked.{RankedSoFar, AllHeldUp}
 use Rattle.ranking.specs.RankedLaws.{held-up-from}
-use borrow.Author.Needs.{needs}
 use native.Mathlib.Omega.{arith}
 use Rattle.ranking.proofs.rank_pass.Statement.{statement}
 use Rattle.ranking.proofs.rank_pass.Tie as tie

@@ -5,8 +5,8 @@ use Rattle.lookup.specs.Lookup.{workflow-of}
 use Rattle.ranking.specs.Views.{view-in-range}
 use Rattle.ranking.specs.Turned.{turned-none}
 use Rattle.ranking.specs.Ranked.{at}
-use Rattle.ranking.specs.RankedLaws.{known-at-most, some-left, rank-turned}
-use borrow.Author.Needs.{needs}
+use Rattle.ranking.specs.RankedLaws.{known-at-most}
+use Rattle.ranking.specs.RankedMore.{some-left, rank-turned}
 use native.Mathlib.Omega.{arith}
 use Rattle.ranking.proofs.rank_task.Statement.{statement}
 use Rattle.ranking.proofs.rank_task.Tie as tie
@@ -39,7 +39,6 @@ returns c =
 
 -- src/lib.rt:100:9
 rank-of-requires : tie.Need-rank-of-requires
-unfolding workflow
 rank-of-requires c κs =
     let pre = c .before .before .before .before .pre in
     let a = c .before .before .before .before .args in

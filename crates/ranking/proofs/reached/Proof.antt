@@ -1,6 +1,5 @@
 -- By the two tests.
 use borrow.Author.Tests.{eq-eqb, ne-eqb}
-use native.Mathlib.Omega.{arith}
 use borrow.Author.Needs.{needs}
 use Rattle.ranking.proofs.reached.Statement.{statement}
 use Rattle.ranking.proofs.reached.Tie as tie
