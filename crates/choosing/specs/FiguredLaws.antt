@@ -18,11 +18,6 @@ use Rattle.choosing.specs.Figured.{sooner, FiguresOf, BestCost, Passed, 
 use Rattle.choosing.specs.declared.figures.Figures.{Figures}
 use Rattle.choosing.specs.declared.figures.Weights.{Weights}
 
-pub or-one-at-least : (x : ℕ) → 1 ≤ x → x ≡ or-one x
-unfolding or-one
-or-one-at-least zero h = absurd (omega arith)
-or-one-at-least (suc x) h = refl
-
 pub or-one-at-most : (x b : ℕ) → 1 ≤ b → x ≤ b → or-one x ≤ b
 unfolding or-one
 or-one-at-most zero b some h = some

@@ -4,7 +4,6 @@ ghost use Prim.Native.Nat.{_+_, _≤_};
 ghost use lib.Dec.{leb};
 ghost use Rattle.choosing.specs.Asked.{asked};
 ghost use Rattle.choosing.specs.Figured.{BestCost, Passed, FiguresOf, FiguresInRange, Weighed, may-by, score-by, standing-by};
-use crate::numbers;
 
 // RB and RCB, and of the processors passed: the cost of the best, the earliest and the latest finish, the lowest and the highest cost.
 pub struct Figures {

@@ -5,7 +5,6 @@ ghost use Rattle.choosing.specs.Asked.{asked, InRange, meant-choice};
 ghost use Rattle.choosing.specs.Leading.{ahead-by, led-by, taken-by};
 
 mod figures;
-mod numbers;
 
 // A processor, or that none may be taken.
 pub enum Choice {

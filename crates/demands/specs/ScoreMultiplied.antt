@@ -4,11 +4,7 @@ use mathlib.Core.Path.{_≡_, refl, sym, ap, _∙_}
 use native.Mathlib.Omega.{arith}
 use native.Mathlib.Nat.{mul-zero, mul-pos}
 use Rattle.rules.specs.Method.{or-one}
-
-or-one-of-positive : (x : ℕ) → 1 ≤ x → or-one x ≡ x
-unfolding or-one
-or-one-of-positive zero pos = absurd (omega arith)
-or-one-of-positive (suc x) pos = refl
+use Rattle.laws.specs.Method.{or-one-of-positive}
 
 or-one-multiplied : (a x : ℕ) → 1 ≤ a → 1 ≤ x → or-one (a * x) ≡ a * or-one x
 or-one-multiplied a x p q = or-one-of-positive (a * x) (mul-pos p q) ∙ ap (λ z. a * z) (sym (or-one-of-positive x q))

@@ -1,16 +1,22 @@
--- The method looks at nothing but the processors there are, and the best finishes earliest.
+-- The method looks at nothing but the processors there are, and takes one of them; the best finishes earliest.
 use Prim.Native.Nat.{ℕ, zero, suc, _≤_, _<_, min}
-use mathlib.Core.Path.{_≡_, refl, ap, ap₂, _∙_}
-use mathlib.Core.Bool.{true, cond}
+use mathlib.Core.Path.{_≡_, refl, ap, ap₂, _∙_, subst}
+use mathlib.Core.Bool.{Bool, true, false, cond}
 use mathlib.Core.Logic.{⊎-elim}
 use native.Mathlib.Omega.{arith}
 use Rattle.rules.specs.Folds.{lowest}
 use Rattle.rules.specs.Orders.{Order, lower, first}
-use Rattle.rules.specs.Method.{Question, take, nothing, best, may-be-taken, latest-finish, B, F, score, preferred, HBCS}
+use Rattle.rules.specs.Method.{Question, Method, take, nothing, best, may-be-taken, latest-finish, B, F, or-one, score, preferred, HBCS}
 use Rattle.laws.specs.Tests.{cond-either}
 use Rattle.laws.specs.Folds.{largest-same, lowest-same}
 use Rattle.laws.specs.Orders.{lower-true, lower-false, lower-same, higher-same, among-same}
 use Rattle.laws.specs.First.{first-below, first-same}
+
+-- 1 stands for 0 alone.
+pub or-one-of-positive : (x : ℕ) → 1 ≤ x → or-one x ≡ x
+unfolding or-one
+or-one-of-positive zero pos = absurd (omega arith)
+or-one-of-positive (suc x) pos = refl
 
 -- The first by a lowest figure has the lowest figure.
 pub first-is-lowest : (f : ℕ → ℕ) (next : Order) (k : ℕ) → f (first k (lower f next)) ≡ lowest k f
@@ -86,3 +92,29 @@ pub HBCS-same : (q r : Question) → 1 ≤ q .processors → Same q r → HBCS q
 HBCS-same q r some same =
     choice-same (q .processors) some (q .cost) (r .cost) (q .finish) (r .finish) (q .RB) (q .RCB) (same .cost) (same .finish)
     ∙ (λ t. HBCS (record { processors = same .processors t; cost = r .cost; finish = r .finish; RB = same .RB t; RCB = same .RCB t }))
+
+-- The processor that it prefers to all others.
+abbrev pub chosen : Question → ℕ
+chosen q = first (q .processors) (preferred q)
+
+-- What it takes is that one, which may be taken.
+pub HBCS-taken : (q : Question) (j : ℕ) → HBCS q ≡ take j → (chosen q ≡ j) × (may-be-taken q (chosen q) ≡ true)
+unfolding HBCS
+HBCS-taken q j = go (may-be-taken q (chosen q)) refl
+  where
+    go :
+        (t : Bool) → may-be-taken q (chosen q) ≡ t → cond t (take (chosen q)) nothing ≡ take j
+        → (chosen q ≡ j) × (may-be-taken q (chosen q) ≡ true)
+    go true may e = (cc, may)
+    go false may e = let z : _≡_ {A = ℕ} 0 1 = cc in absurd (omega arith)
+
+pub HBCS-takes-processor : (q : Question) (j : ℕ) → 1 ≤ q .processors → HBCS q ≡ take j → j < q .processors
+HBCS-takes-processor q j some e = subst (λ k. k < q .processors) (HBCS-taken q j e .0) (first-below (q .processors) (preferred q) some)
+
+-- What placing asks of a method: it takes one of the processors, and where two questions are the same for these it chooses the same.
+pub record ChoosesAmong (M : Method) : Type 0 where
+  pub takes-processor : (q : Question) (j : ℕ) → 1 ≤ q .processors → M q ≡ take j → j < q .processors
+  pub alike : (q r : Question) → 1 ≤ q .processors → Same q r → M q ≡ M r
+
+pub HBCS-chooses-among : ChoosesAmong HBCS
+HBCS-chooses-among = record { takes-processor = HBCS-takes-processor; alike = HBCS-same }

@@ -1,2 +1,3 @@
 pub mod Lookup
+pub mod Views
 pub mod Settled

@@ -6,8 +6,8 @@ use Rattle.choosing.proofs.led.Tie as tie
 use Rattle.choosing.proofs.led.Reads as reads
 use Rattle.choosing.proofs.led.Lts as lts
 use Rattle.choosing.proofs.ahead.Reads as ahead-reads
-use Rattle.choosing.proofs.numbers.either.Reads as either-reads
-use Rattle.choosing.proofs.numbers.either_number.Reads as either-number-reads
+use Rattle.numbers.proofs.either.Reads as either-reads
+use Rattle.numbers.proofs.either_number.Reads as either-number-reads
 
 -- src/lib.rt:37:9
 ahead-requires : tie.Need-ahead-requires

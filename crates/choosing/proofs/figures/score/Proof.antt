@@ -6,7 +6,7 @@ use Rattle.choosing.proofs.figures.score.Statement.{statement}
 use Rattle.choosing.proofs.figures.score.Tie as tie
 use Rattle.choosing.proofs.figures.score.Reads as reads
 use Rattle.choosing.proofs.figures.score.Lts as lts
-use Rattle.choosing.proofs.numbers.less.Reads as less-reads
+use Rattle.numbers.proofs.less.Reads as less-reads
 
 -- src/figures.rt:119:5
 less-requires : tie.Need-less-requires

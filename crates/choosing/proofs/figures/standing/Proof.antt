@@ -10,7 +10,7 @@ use Rattle.choosing.proofs.figures.standing.Reads as reads
 use Rattle.choosing.proofs.figures.standing.Lts as lts
 use Rattle.choosing.proofs.figures.may_be_taken.Reads as may-be-taken-reads
 use Rattle.choosing.proofs.figures.score.Reads as score-reads
-use Rattle.choosing.proofs.numbers.either.Reads as either-reads
+use Rattle.numbers.proofs.either.Reads as either-reads
 
 -- src/figures.rt:129:17
 score-requires : tie.Need-score-requires

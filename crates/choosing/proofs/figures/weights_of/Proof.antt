@@ -9,8 +9,8 @@ use Rattle.choosing.proofs.figures.weights_of.Statement.{statement}
 use Rattle.choosing.proofs.figures.weights_of.Tie as tie
 use Rattle.choosing.proofs.figures.weights_of.Reads as reads
 use Rattle.choosing.proofs.figures.weights_of.Lts as lts
-use Rattle.choosing.proofs.numbers.less.Reads as less-reads
-use Rattle.choosing.proofs.numbers.or_one.Reads as or-one-reads
+use Rattle.numbers.proofs.less.Reads as less-reads
+use Rattle.numbers.proofs.or_one.Reads as or-one-reads
 
 -- src/figures.rt:104:29
 less-requires : tie.Need-less-requires

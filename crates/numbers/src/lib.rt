@@ -1,4 +1,4 @@
-// Small functions that keep branches out of loops.
+// The larger, the lower and other small functions of numbers, which keep branches out of loops.
 ghost use mathlib.Core.Path.{_≡_};
 ghost use mathlib.Core.Bool.{cond};
 ghost use Prim.Native.Nat.{_-_, max, min};
