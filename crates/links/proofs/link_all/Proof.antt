@@ -1,0 +1,137 @@
+-- After e edges the links are those of the first e.
+use Prim.Native.Nat.{_≤_, _-_}
+use mathlib.Core.Path.{sym}
+use Rattle.rules.specs.Workflow.{workflow}
+use Rattle.lookup.specs.Lookup.{workflow-of}
+use Rattle.lookup.specs.Views.{view-in-range}
+use Rattle.links.specs.Links.{Linked}
+use Rattle.links.specs.LinksLaws.{linked-first, linked-next, linked-all}
+use borrow.Author.Needs.{needs}
+use native.Mathlib.Omega.{arith}
+use Rattle.links.proofs.link_all.Statement.{statement}
+use Rattle.links.proofs.link_all.Tie as tie
+use Rattle.links.proofs.link_all.Reads as reads
+use Rattle.links.proofs.link_all.Lts as lts
+use Rattle.lookup.proofs.to.Reads as to-reads
+
+abbrev Inv-loop : tie.InvT-loop
+Inv-loop s v last₀ before₀ e₀ last before e = (e ≤ v .edges) × Linked (workflow-of s v) e last before
+
+abbrev μ-loop : tie.MeasureT-loop
+μ-loop s v last₀ before₀ e₀ last before e = v .edges - e
+
+-- src/lib.rt:21:5
+loop-holds : tie.Need-loop-holds Inv-loop μ-loop
+loop-holds c = (omega arith, linked-first _)
+
+-- src/lib.rt:22:13
+to-requires : tie.Need-to-requires Inv-loop μ-loop
+to-requires c κs = search needs
+
+-- src/lib.rt:23:21
+mul-before : tie.Need-mul-before Inv-loop μ-loop
+unfolding workflow
+mul-before c =
+    let start = c .before .before .before .before .before in
+    let a = start .args in
+    let range = view-in-range (a .s .now) (a .v) (start .pre) in
+    omega (arith, c .to .ensures .1, range .tasks-in)
+
+-- src/lib.rt:23:21
+array-read-before : tie.Need-array-read-before Inv-loop μ-loop
+unfolding workflow
+array-read-before c =
+    let start = c .before .before .before .before .before in
+    let a = start .args in
+    let range = view-in-range (a .s .now) (a .v) (start .pre) in
+    omega (arith, c .to .ensures .1, range .tasks-in)
+
+-- src/lib.rt:23:9
+mul-before-2 : tie.Need-mul-before-2 Inv-loop μ-loop
+unfolding workflow
+mul-before-2 c =
+    let start = c .before .before .before .before .before in
+    let a = start .args in
+    let range = view-in-range (a .s .now) (a .v) (start .pre) in
+    omega (arith, range .edges-in)
+
+-- src/lib.rt:23:9
+array-write-before : tie.Need-array-write-before Inv-loop μ-loop
+unfolding workflow
+array-write-before c =
+    let start = c .before .before .before .before .before in
+    let a = start .args in
+    let range = view-in-range (a .s .now) (a .v) (start .pre) in
+    omega (arith, range .edges-in)
+
+-- src/lib.rt:24:9
+add-e : tie.Need-add-e Inv-loop μ-loop
+add-e c = search needs
+
+-- src/lib.rt:25:20
+cast-last : tie.Need-cast-last Inv-loop μ-loop
+unfolding workflow
+cast-last c =
+    let start = c .before .before .before .before .before in
+    let a = start .args in
+    let range = view-in-range (a .s .now) (a .v) (start .pre) in
+    omega (arith, range .edges-in)
+
+-- src/lib.rt:25:9
+mul-last : tie.Need-mul-last Inv-loop μ-loop
+unfolding workflow
+mul-last c =
+    let start = c .before .before .before .before .before in
+    let a = start .args in
+    let range = view-in-range (a .s .now) (a .v) (start .pre) in
+    omega (arith, c .to .ensures .1, range .tasks-in)
+
+-- src/lib.rt:25:9
+array-write-last : tie.Need-array-write-last Inv-loop μ-loop
+unfolding workflow
+array-write-last c =
+    let start = c .before .before .before .before .before in
+    let a = start .args in
+    let range = view-in-range (a .s .now) (a .v) (start .pre) in
+    omega (arith, c .to .ensures .1, range .tasks-in)
+
+-- src/lib.rt:21:5
+loop-less : tie.Need-loop-less Inv-loop μ-loop
+loop-less c = search needs
+
+-- src/lib.rt:21:5
+loop-again : tie.Need-loop-again Inv-loop μ-loop
+unfolding workflow
+loop-again c =
+    let start = c .before .before .before .before .before in
+    let a = start .args in
+    let range = view-in-range (a .s .now) (a .v) (start .pre) in
+    let loop = c .before .before .before .loop in
+    (omega arith, linked-next _ (loop .e) (loop .last) (loop .before) (loop .inv .1) (omega (arith, range .edges-in)) (c .to .result) (sym (c .to .ensures .0)) (omega (arith, c .to .ensures .1, range .tasks-in)))
+
+-- src/lib.rt:14:1
+returns : tie.Need-returns Inv-loop μ-loop
+unfolding workflow
+returns c =
+    let loop = c .before .before .loop in
+    linked-all _ (loop .e) (loop .last) (loop .before) (omega arith) (loop .inv .1)
+
+pub link-all-spec : {M : Type 1} → statement M
+link-all-spec =
+    tie.close
+    (tie.spec
+    Inv-loop
+    μ-loop
+    loop-holds
+    to-requires
+    mul-before
+    array-read-before
+    mul-before-2
+    array-write-before
+    add-e
+    cast-last
+    mul-last
+    array-write-last
+    loop-less
+    loop-again
+    returns)
