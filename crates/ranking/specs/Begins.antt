@@ -1,17 +1,38 @@
 -- Where the edges of a task begin, and those of the task before it end: edges rise by from.
 use Prim.Native.Nat.{ℕ, zero, suc, _+_, _-_, _≤_, _<_}
-use mathlib.Core.Path.{_≡_}
+use mathlib.Core.Path.{_≡_, _∙_}
+use mathlib.Core.Bool.{cond}
+use mathlib.Core.List.{List}
+use lib.Dec.{eqb}
+use lib.ListN.{length, getD, set, length-set}
+use borrow.Author.Tests.{eq-eqb, ne-eqb}
 use native.Mathlib.Omega.{arith}
 use native.Mathlib.Nat.{add-zero}
-use native.Mathlib.Decide.{decLe}
+use native.Mathlib.Decide.{decLe, ℕ-discrete}
 use mathlib.Core.Logic.{_⊎_, inl, inr, ⊎-elim}
 use Rattle.rules.specs.Workflow.{Workflow}
 use Rattle.good.specs.Ranges.{InRange}
+use Rattle.laws.specs.Stores.{stored}
 
 pub record Begins (W : Workflow) (task at : ℕ) : Type 0 where
   pub within : at ≤ W .edges
   pub before : (e : ℕ) → e < at → W .from e < task
   pub onward : (e : ℕ) → at ≤ e → e < W .edges → task ≤ W .from e
+
+-- An array that has, for each task from `first` on, where its edges begin; and for the number of tasks, where all edges end.
+pub record BeginsFrom (W : Workflow) (first : ℕ) (begins : List ℕ) : Type 0 where
+  pub size : length begins ≡ 65
+  pub begin : (task : ℕ) → first ≤ task → task ≤ W .tasks → Begins W task (getD begins task 0)
+
+-- One task more, on the way back.
+pub begins-from : (W : Workflow) (task at : ℕ) (begins : List ℕ) → length begins ≡ 65 → task < 65 → Begins W task at
+    → ((later : ℕ) → task + 1 ≤ later → later ≤ W .tasks → Begins W later (getD begins later 0)) → BeginsFrom W task (set begins task at)
+begins-from W task at begins size room here later =
+    record { size = length-set begins task at ∙ size; begin = λ t l below. rw (stored begins task at 0 t (omega arith)) (go t l below (ℕ-discrete task t)) }
+  where
+    go : (t : ℕ) → task ≤ t → t ≤ W .tasks → Dec (task ≡ t) → Begins W t (cond (eqb task t) at (getD begins t 0))
+    go t l below (yes e) = rw (eq-eqb task t e, ← e) here
+    go t l below (no n) = rw (ne-eqb task t n) (later t (omega arith) below)
 
 pub below-or-on : (e at : ℕ) → (e ≤ at) ⊎ (at + 1 ≤ e)
 below-or-on e at = go (decLe e at)

@@ -1,10 +1,10 @@
-pub mod Views
 pub mod Turned
 pub mod Begins
 pub mod Ranked
 pub mod RankBounds
 pub mod RankedMore
 pub mod RankedLaws
+pub mod Settled
 pub mod Passed
 pub mod Marked
 pub mod MarkedLaws

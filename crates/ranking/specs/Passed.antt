@@ -1,16 +1,15 @@
 -- The edges of a task, passed one after the other: what the largest over them comes to, while each leads to a task that has its rank.
-use Prim.Native.Nat.{ℕ, zero, suc, _+_, _*_, _-_, _≤_, _<_, max}
+use Prim.Native.Nat.{ℕ, _+_, _*_, _≤_, _<_, max}
 use mathlib.Core.Path.{_≡_, sym, ap, _∙_}
 use mathlib.Core.List.{List}
 use mathlib.Core.Logic.{⊎-elim}
-use native.Mathlib.Nat.{add-zero}
 use native.Mathlib.Omega.{arith}
 use borrow.Author.Tests.{eq-eqb, ne-eqb}
 use Rattle.rules.specs.Folds.{sum, largest}
 use Rattle.rules.specs.Workflow.{Workflow}
 use Rattle.rules.specs.Ranks.{rank-by}
 use Rattle.good.specs.Ranges.{InRange}
-use Rattle.laws.specs.Folds.{largest-next, largest-of-none}
+use Rattle.laws.specs.Folds.{largest-next, largest-of-none, largest-further}
 use Rattle.ranking.specs.Begins.{Begins, below-or-on, from-between}
 use Rattle.ranking.specs.Ranked.{at, NextRank}
 use Rattle.ranking.specs.RankBounds.{over-edge, transfer-within, rank-at-least-one}
@@ -22,15 +21,6 @@ pub record Passed (W : Workflow) (ranks : List ℕ) (task begin end e most : ℕ
   pub largest-is : most ≡ largest e (over-edge W (at ranks) task)
   pub known : (k : ℕ) → begin ≤ k → k < e → 1 ≤ at ranks (W .to k)
   pub at-most : most ≤ 3_088_000
-
--- From k on there is nothing but 0.
-largest-further : (k d : ℕ) (f : ℕ → ℕ) → ((i : ℕ) → k ≤ i → i < k + d → f i ≡ 0) → largest (k + d) f ≡ largest k f
-unfolding largest
-largest-further k zero f none = rw (add-zero k)
-largest-further k (suc d) f none =
-    let place : k + suc d ≡ suc (k + d) = omega arith in
-    let before : largest (k + d) f ≡ largest k f = largest-further k d f (λ i l m. none i l (omega arith)) in
-    rw place (omega (arith, none (k + d) (omega arith) (omega arith)))
 
 module _ (W : Workflow) (range : InRange W) (ranks : List ℕ) (task begin end : ℕ)
     (first : Begins W task begin) (last : Begins W (task + 1) end) where
@@ -84,11 +74,9 @@ module _ (W : Workflow) (range : InRange W) (ranks : List ℕ) (task begin end :
       → NextRank W ranks task r
   unfolding rank-by
   passed-all below {most} {r} all is =
-      let count : end + (W .edges - end) ≡ W .edges = omega (arith, last .within) in
       let rest : largest (W .edges) (over-edge W (at ranks) task) ≡ largest end (over-edge W (at ranks) task) =
-      rw count at
-      (largest-further end (W .edges - end) (over-edge W (at ranks) task)
-      (λ k l m. rw (ne-eqb (W .from k) task (λ q. omega (arith, last .onward k l (omega arith)))))) in
+      largest-further end (W .edges) (over-edge W (at ranks) task) (last .within)
+      (λ k l m. rw (ne-eqb (W .from k) task (λ q. omega (arith, last .onward k l m)))) in
       let equation : r ≡ rank-by W (at ranks) task = is ∙ ap (λ z. sum (W .processors) (W .minutes task) + z) (all .largest-is ∙ sym rest) in
       record {
         due = λ known. (equation, λ e b from. all .known e (not-before e from) (not-after e b from));

@@ -1,7 +1,7 @@
 -- Ranks as far as they are known. Every rank is at least 1, so 0 stands for a rank that is not known yet.
 use Prim.Native.Nat.{ℕ, _+_, _*_, _≤_, _<_}
 use mathlib.Core.Path.{_≡_}
-use mathlib.Core.Bool.{Bool, true, not}
+use mathlib.Core.Bool.{Bool, true, false, not}
 use mathlib.Core.List.{List}
 use lib.Dec.{ltb}
 use lib.ListN.{length, getD}
@@ -19,12 +19,14 @@ at ranks i = getD ranks i 0
 abbrev pub has-rank : List ℕ → ℕ → Bool
 has-rank ranks i = ltb 0 (at ranks i)
 
--- The ranks that are known are right by the equation, those of a ranked task's successors are known, and `left` tasks are not ranked.
+-- The ranks that are known are right by the equation, those of a ranked task's successors are known, and `left` tasks are not ranked. Past the last task
+-- there is nothing but 0.
 pub record RankedSoFar (W : Workflow) (ranks : List ℕ) (left : ℕ) : Type 0 where
   pub size : length ranks ≡ 64
   pub count : left ≡ count-unmarked (W .tasks) (has-rank ranks)
   pub equation : (i : ℕ) → i < W .tasks → 1 ≤ at ranks i → at ranks i ≡ rank-by W (at ranks) i
   pub successors : (e : ℕ) → e < W .edges → 1 ≤ at ranks (W .from e) → 1 ≤ at ranks (W .to e)
+  pub past : (i : ℕ) → W .tasks ≤ i → at ranks i ≡ 0
   pub at-most : (i : ℕ) → at ranks i + 48_000 * left ≤ 48_000 * W .tasks
 
 -- A rank that is not known.
@@ -44,8 +46,12 @@ HeldUp W ranks i = Unknown ranks i → HasNext W (Unknown ranks) i
 abbrev pub AllHeldUp : Workflow → ℕ → List ℕ → Type 0
 AllHeldUp W first ranks = (i : ℕ) → first ≤ i → i < W .tasks → HeldUp W ranks i
 
--- "R(i) = ..", for all tasks unless the edges have a cycle. Each rank is at most 64 times (16 times 2,000 and 16 times 1,000).
+-- "R(i) = ..", for all tasks unless the edges have a cycle. Each rank is at most 64 times (16 times 2,000 and 16 times 1,000). The array is 0 past the
+-- last task, and throughout where there is a cycle.
 pub record RankedAs (W : Workflow) (r : Ranked) : Type 0 where
   pub all-unless-cyclic : r .all ≡ not (cyclic W)
-  pub ranks-are : r .all ≡ true → (i : ℕ) → i < W .tasks → getD (r .ranks) i 0 ≡ R W i
-  pub at-most : (i : ℕ) → getD (r .ranks) i 0 ≤ 3_072_000
+  pub size : length (r .ranks) ≡ 64
+  pub ranks-are : r .all ≡ true → (i : ℕ) → i < W .tasks → at (r .ranks) i ≡ R W i
+  pub past : (i : ℕ) → W .tasks ≤ i → at (r .ranks) i ≡ 0
+  pub none-with-cycle : r .all ≡ false → (i : ℕ) → at (r .ranks) i ≡ 0
+  pub at-most : (i : ℕ) → at (r .ranks) i ≤ 3_072_000

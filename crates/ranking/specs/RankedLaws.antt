@@ -2,7 +2,7 @@
 -- that is not, there is one.
 use Prim.Native.Nat.{ℕ, _+_, _≤_, _<_}
 use mathlib.Core.Path.{_≡_, refl, sym, _∙_, subst}
-use mathlib.Core.Bool.{true, false, cond, false≢true}
+use mathlib.Core.Bool.{true, false, cond, true≢false, false≢true}
 use mathlib.Core.Logic.{⊎-elim}
 use mathlib.Core.List.{List}
 use native.Mathlib.Omega.{arith}
@@ -38,6 +38,7 @@ module _ (W : Workflow) (range : InRange W) where
             (sum-same (W .tasks) (λ i. cond (has-rank (replicate 64 0) i) 0 1) (λ i. 1) (λ i l. rw (none i)) ∙ count-unmarked-at-first (W .tasks));
         equation = λ i l known. absurd (omega (arith, none i));
         successors = λ e l known. absurd (omega (arith, none (W .from e)));
+        past = λ i l. none i;
         at-most = λ i. omega (arith, none i);
       }
 
@@ -59,7 +60,10 @@ module _ (W : Workflow) (range : InRange W) where
     ranked-all =
         record {
           all-unless-cyclic = rw not-cyclic;
+          size = so-far .size;
           ranks-are = λ all. R-unique W (range .to-below) none-back (at ranks) all-known;
+          past = so-far .past;
+          none-with-cycle = λ not-all. absurd (true≢false not-all);
           at-most = known-at-most ranks 0 so-far;
         }
 
@@ -72,12 +76,16 @@ module _ (W : Workflow) (range : InRange W) where
         cyclic-iff W (range .to-below) .1
         (some-leads-back W (range .to-below) (Unknown ranks) (λ k below. held-up k (omega arith) below) i l unknown)
 
-    pub ranked-not-all : RankedAs W (record { all = false; ranks = ranks })
+    pub ranked-not-all : RankedAs W (record { all = false; ranks = replicate 64 0 })
     ranked-not-all =
+        let none : (i : ℕ) → at (replicate 64 0) i ≡ 0 = repeated 64 0 in
         record {
           all-unless-cyclic = rw is-cyclic;
+          size = refl;
           ranks-are = λ all. absurd (false≢true all);
-          at-most = known-at-most ranks left so-far;
+          past = λ i l. none i;
+          none-with-cycle = λ not-all. none;
+          at-most = λ i. omega (arith, none i);
         }
 
 -- One task more is seen to be held up, from the highest down.

@@ -7,7 +7,7 @@ use mathlib.Core.List.{List}
 use native.Mathlib.Omega.{arith}
 use lib.Dec.{ltb, eqb}
 use lib.ListN.{set, length-set}
-use borrow.Author.Tests.{lt-ltb, eq-eqb, eqb-true}
+use borrow.Author.Tests.{lt-ltb, eq-eqb, ne-eqb, eqb-true}
 use Rattle.rules.specs.Workflow.{Workflow}
 use Rattle.rules.specs.Ranks.{rank-by}
 use Rattle.good.specs.Ranges.{InRange}
@@ -93,6 +93,9 @@ module _ (W : Workflow) (range : InRange W) where
         (λ (same : at (set ranks i r) k ≡ at ranks k). omega (arith, so-far .at-most k))
         (same-at k)
 
+    past-now : (k : ℕ) → W .tasks ≤ k → at (set ranks i r) k ≡ 0
+    past-now k l = at-now k ∙ rw (ne-eqb i k (λ q. omega arith)) (so-far .past k l)
+
     ranked-more : RankedSoFar W (set ranks i r) (left - 1)
     ranked-more =
         record {
@@ -100,6 +103,7 @@ module _ (W : Workflow) (range : InRange W) where
           count = omega (arith, count-now);
           equation = equation-now;
           successors = successors-now;
+          past = past-now;
           at-most = at-most-now;
         }
 

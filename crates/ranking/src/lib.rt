@@ -1,7 +1,7 @@
 // The ranks of a request's tasks, and the lowest task with a path back to itself where its edges have a cycle.
 ghost use mathlib.Core.Path.{_≡_};
 ghost use mathlib.Core.Bool.{true, false, _||_};
-ghost use Prim.Native.Nat.{ℕ, _+_, _≤_, _<_, max};
+ghost use Prim.Native.Nat.{ℕ, _+_, _≤_, _<_};
 ghost use lib.Dec.{eqb};
 ghost use lib.ListN.{getD};
 ghost use Rattle.rules.specs.Folds.{sum};
@@ -9,21 +9,15 @@ ghost use Rattle.rules.specs.Cycle.{back-to-itself, cyclic, lowest-in-cycle};
 ghost use Rattle.reader.specs.Meaning.{ViewOf};
 ghost use Rattle.lookup.specs.Lookup.{workflow-of};
 ghost use Rattle.ranking.specs.Turned.{Turned};
-ghost use Rattle.ranking.specs.Begins.{Begins};
+ghost use Rattle.ranking.specs.Begins.{Begins, BeginsFrom};
 ghost use Rattle.ranking.specs.Ranked.{RankedSoFar, NextRank, HeldUp, AllHeldUp, RankedAs};
 ghost use Rattle.ranking.specs.Marked.{MarkedSoFar, Followed, AllFollowed};
 use reader::View;
 
-// Whether all tasks are ranked, which they are without a cycle, and the ranks of those that are; 0 for the others.
+// Whether all tasks are ranked, which they are without a cycle, and their ranks; 0 past the last task, and throughout with a cycle.
 pub struct Ranked {
     pub all: bool,
     pub ranks: [u64; 64],
-}
-
-fn larger(x: u64, y: u64) -> u64
-    ensures { λ r. ⌜ r ≡ max x y ⌝ }
-{
-    if x < y { y } else { x }
 }
 
 // The minutes of a task on all processors together.
@@ -58,6 +52,23 @@ fn begin_of(s: &[u8], v: View, task: usize, end: usize) -> usize
     begin
 }
 
+// Where the edges of each task begin; past the last task, where all edges end.
+fn begins_all(s: &[u8], v: View) -> [u16; 65]
+    requires { ⌜ ViewOf (now s) v ⌝ }
+    ensures { λ r. ⌜ BeginsFrom (workflow-of (now (s .entry)) v) 0 r ⌝ }
+{
+    let mut begins = [0u16; 65];
+    let mut task = v.tasks;
+    let mut end = v.edges;
+    begins[task] = end as u16;
+    while 0 < task {
+        task -= 1;
+        end = begin_of(s, v, task, end);
+        begins[task] = end as u16;
+    }
+    begins
+}
+
 // The rank of a task once its successors have theirs; 0 while one has not.
 fn rank_of(s: &[u8], v: View, ranks: &[u64; 64], task: usize, begin: usize, end: usize) -> u64
     requires { ⌜ ViewOf (now s) v ⌝ }
@@ -73,7 +84,7 @@ fn rank_of(s: &[u8], v: View, ranks: &[u64; 64], task: usize, begin: usize, end:
         if onward == 0 {
             return 0;
         }
-        most = larger(most, processors * lookup::transfer(s, v, e) + onward);
+        most = numbers::larger(most, processors * lookup::transfer(s, v, e) + onward);
         e += 1;
     }
     all_minutes(s, v, task) + most
@@ -106,19 +117,19 @@ fn rank_task(
 }
 
 // Ranks the tasks that can be, from the highest number down. Answers how many are left.
-fn rank_pass(s: &[u8], v: View, ranks: &mut [u64; 64], left: usize) -> usize
+fn rank_pass(s: &[u8], v: View, begins: &[u16; 65], ranks: &mut [u64; 64], left: usize) -> usize
     requires { ⌜ ViewOf (now s) v ⌝ }
+    requires { ⌜ BeginsFrom (workflow-of (now s) v) 0 (now begins) ⌝ }
     requires { ⌜ RankedSoFar (workflow-of (now s) v) (now ranks) left ⌝ }
     ensures { λ r. ⌜ Turned (RankedSoFar (workflow-of (now (s .entry)) v)) (AllHeldUp (workflow-of (now (s .entry)) v) 0) (now (ranks .entry)) (now (ranks .exit)) left r ⌝ }
 {
     let mut now_left = left;
     let mut task = v.tasks;
-    let mut end = v.edges;
     while 0 < task {
+        let end = begins[task] as usize;
         task -= 1;
-        let begin = begin_of(s, v, task, end);
+        let begin = begins[task] as usize;
         now_left = rank_task(s, v, ranks, task, begin, end, now_left);
-        end = begin;
     }
     now_left
 }
@@ -128,13 +139,17 @@ pub fn rank_all(s: &[u8], v: View) -> Ranked
     requires { ⌜ ViewOf (now s) v ⌝ }
     ensures { λ r. ⌜ RankedAs (workflow-of (now (s .entry)) v) r ⌝ }
 {
+    let begins = begins_all(s, v);
     let mut ranks = [0u64; 64];
     let mut left = v.tasks;
     while 0 < left {
         let before = left;
-        left = rank_pass(s, v, &mut ranks, before);
+        left = rank_pass(s, v, &begins, &mut ranks, before);
         if left == before {
-            return Ranked { all: false, ranks };
+            return Ranked {
+                all: false,
+                ranks: [0u64; 64],
+            };
         }
     }
     Ranked { all: true, ranks }

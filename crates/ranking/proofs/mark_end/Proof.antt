@@ -5,7 +5,7 @@ use mathlib.Core.Bool.{_||_, true≢false}
 use lib.Dec.{eqb}
 use Rattle.rules.specs.Workflow.{workflow}
 use Rattle.lookup.specs.Lookup.{workflow-of}
-use Rattle.ranking.specs.Views.{view-in-range}
+use Rattle.lookup.specs.Views.{view-in-range}
 use Rattle.ranking.specs.Turned.{turned-none}
 use Rattle.ranking.specs.Marked.{marked}
 use Rattle.ranking.specs.MarkedLaws.{mark-turned, some-left}
@@ -19,11 +19,11 @@ use Rattle.lookup.proofs.from.Reads as from-reads
 use Rattle.lookup.proofs.to.Reads as to-reads
 use Rattle.ranking.proofs.reached.Reads as reached-reads
 
--- src/lib.rt:157:9
+-- src/lib.rt:179:9
 to-requires : tie.Need-to-requires
 to-requires c κs = search needs
 
--- src/lib.rt:158:8
+-- src/lib.rt:180:8
 element-copy-out-if1 : tie.Need-element-copy-out-if1
 unfolding workflow
 element-copy-out-if1 c =
@@ -32,7 +32,7 @@ element-copy-out-if1 c =
     let to = c .to in
     omega (arith, to .ensures .1, view-in-range (a .s .now) (a .v) (pre .0) .tasks-in)
 
--- src/lib.rt:159:9
+-- src/lib.rt:181:9
 returns : tie.Need-returns
 returns c =
     let pre = c .before .before .before .before .pre in
@@ -41,11 +41,11 @@ returns c =
     let if1 = c .if1 in
     turned-none (pre .1 .1) (λ h. ap (marked (a .marks .now)) (sym (to .ensures .0)) ∙ if1 .taken)
 
--- src/lib.rt:161:30
+-- src/lib.rt:183:30
 from-requires : tie.Need-from-requires
 from-requires c κs = search needs
 
--- src/lib.rt:161:8
+-- src/lib.rt:183:8
 reached-requires : tie.Need-reached-requires
 unfolding workflow
 reached-requires c κs =
@@ -54,7 +54,7 @@ reached-requires c κs =
     let from = c .from in
     omega (arith, from .ensures .1, view-in-range (a .s .now) (a .v) (pre .0) .tasks-in)
 
--- src/lib.rt:162:9
+-- src/lib.rt:184:9
 element-write-marks : tie.Need-element-write-marks
 unfolding workflow
 element-write-marks c =
@@ -63,7 +63,7 @@ element-write-marks c =
     let to = c .before .before .before .before .before .before .to in
     omega (arith, to .ensures .1, view-in-range (a .s .now) (a .v) (pre .0) .tasks-in)
 
--- src/lib.rt:163:16
+-- src/lib.rt:185:16
 sub-result : tie.Need-sub-result
 unfolding workflow
 sub-result c =
@@ -76,7 +76,7 @@ sub-result c =
     let free = ap (marked (a .marks .now)) (sym (to .ensures .0)) ∙ if1 .left in
     some-left W range (a .start) (a .marks .now) (a .left) (a .edge) (pre .1 .1) (pre .1 .0) free
 
--- src/lib.rt:163:9
+-- src/lib.rt:185:9
 returns-2 : tie.Need-returns-2
 unfolding workflow
 returns-2 c =
@@ -95,7 +95,7 @@ returns-2 c =
     rw (to .ensures .0)
     (mark-turned W range (a .start) (a .marks .now) (a .left) (a .edge) (pre .1 .1) (pre .1 .0) free is-reached)
 
--- src/lib.rt:152:1
+-- src/lib.rt:167:1
 returns-3 : tie.Need-returns-3
 returns-3 c =
     let pre = c .before .before .before .before .before .before .before .before .pre in

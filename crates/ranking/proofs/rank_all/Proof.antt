@@ -2,7 +2,7 @@
 use mathlib.Core.Path.{_≡_}
 use Rattle.rules.specs.Workflow.{workflow}
 use Rattle.lookup.specs.Lookup.{workflow-of}
-use Rattle.ranking.specs.Views.{view-in-range}
+use Rattle.lookup.specs.Views.{view-in-range}
 use Rattle.ranking.specs.Turned.{turned-still, turned-less}
 use Rattle.ranking.specs.Ranked.{RankedSoFar}
 use Rattle.ranking.specs.RankedLaws.{ranked-none, ranked-all, ranked-not-all}
@@ -11,58 +11,70 @@ use Rattle.ranking.proofs.rank_all.Statement.{statement}
 use Rattle.ranking.proofs.rank_all.Tie as tie
 use Rattle.ranking.proofs.rank_all.Reads as reads
 use Rattle.ranking.proofs.rank_all.Lts as lts
+use Rattle.ranking.proofs.begins_all.Reads as begins-all-reads
 use Rattle.ranking.proofs.rank_pass.Reads as rank-pass-reads
 
 abbrev Inv-loop : tie.InvT-loop
-Inv-loop s v ranks₀ left₀ ranks left = RankedSoFar (workflow-of s v) ranks left
+Inv-loop s v begins ranks₀ left₀ ranks left = RankedSoFar (workflow-of s v) ranks left
 
 abbrev μ-loop : tie.MeasureT-loop
-μ-loop s v ranks₀ left₀ ranks left = left
+μ-loop s v begins ranks₀ left₀ ranks left = left
 
--- src/lib.rt:133:5
+-- src/lib.rt:142:18
+begins-all-requires : tie.Need-begins-all-requires Inv-loop μ-loop
+begins-all-requires c κs = c .before .pre
+
+-- src/lib.rt:145:5
 loop-holds : tie.Need-loop-holds Inv-loop μ-loop
 unfolding workflow
 loop-holds c =
-    let pre = c .before .pre in
-    let a = c .before .args in
-    ranked-none (workflow-of (a .s .now) (a .v)) (view-in-range (a .s .now) (a .v) pre)
+    let a = c .before .before .args in
+    ranked-none (workflow-of (a .s .now) (a .v)) (view-in-range (a .s .now) (a .v) (c .before .before .pre))
 
--- src/lib.rt:135:9
+-- src/lib.rt:147:9
 rank-pass-requires : tie.Need-rank-pass-requires Inv-loop μ-loop
-rank-pass-requires c κs = (c .before .before .before .before .pre, c .before .before .loop .inv)
+rank-pass-requires c κs =
+    (c .before .before .before .before .before .before .pre, (c .before .before .before .before .begins-all .ensures, c .before .before .before .loop .inv))
 
--- src/lib.rt:137:13
+-- src/lib.rt:149:13
 returns : tie.Need-returns Inv-loop μ-loop
 returns c =
-    let pre = c .before .before .before .before .before .before .pre in
-    let a = c .before .before .before .before .before .before .args in
-    let loop-test = c .before .before .before .loop-test in
-    let rank-pass = c .before .rank-pass in
+    let start = c .before .before .before .before .before .before .before .before in
+    let a = start .args in
+    let loop-test = c .before .before .before .before .loop-test in
     let if1 = c .if1 in
-    let W = workflow-of (a .s .now) (a .v) in
-    let turned = rank-pass .ensures in
-    let range = view-in-range (a .s .now) (a .v) pre in
-    ranked-not-all W range _ _ (turned .kept) (omega (arith, if1 .taken, loop-test .taken)) (turned-still turned (if1 .taken))
+    let turned = c .before .rank-pass .ensures in
+    ranked-not-all (workflow-of (a .s .now) (a .v)) (view-in-range (a .s .now) (a .v) (start .pre)) _ _ (turned .kept)
+    (omega (arith, if1 .taken, loop-test .taken))
+    (turned-still turned (if1 .taken))
 
--- src/lib.rt:133:5
+-- src/lib.rt:145:5
 loop-less : tie.Need-loop-less Inv-loop μ-loop
 loop-less c = turned-less (c .before .rank-pass .ensures) (c .if1 .left)
 
--- src/lib.rt:133:5
+-- src/lib.rt:145:5
 loop-again : tie.Need-loop-again Inv-loop μ-loop
 loop-again c = c .before .rank-pass .ensures .kept
 
--- src/lib.rt:127:1
+-- src/lib.rt:138:1
 returns-2 : tie.Need-returns-2 Inv-loop μ-loop
 returns-2 c =
-    let pre = c .before .before .before .pre in
-    let a = c .before .before .before .args in
+    let start = c .before .before .before .before in
+    let a = start .args in
     let loop = c .before .loop in
-    let W = workflow-of (a .s .now) (a .v) in
     let none : loop .left ≡ 0 = omega arith in
-    ranked-all W (view-in-range (a .s .now) (a .v) pre) (loop .ranks) (rw none at (loop .inv))
+    ranked-all (workflow-of (a .s .now) (a .v)) (view-in-range (a .s .now) (a .v) (start .pre)) (loop .ranks) (rw none at (loop .inv))
 
 pub rank-all-spec : {M : Type 1} → statement M
 rank-all-spec =
     tie.close
-    (tie.spec Inv-loop μ-loop loop-holds rank-pass-requires returns loop-less loop-again returns-2)
+    (tie.spec
+    Inv-loop
+    μ-loop
+    begins-all-requires
+    loop-holds
+    rank-pass-requires
+    returns
+    loop-less
+    loop-again
+    returns-2)

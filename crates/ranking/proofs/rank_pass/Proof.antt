@@ -3,9 +3,8 @@ use mathlib.Core.Path.{_≡_}
 use Prim.Native.Nat.{_+_, _-_, _≤_}
 use Rattle.rules.specs.Workflow.{workflow}
 use Rattle.lookup.specs.Lookup.{workflow-of}
-use Rattle.ranking.specs.Views.{view-in-range}
+use Rattle.lookup.specs.Views.{view-in-range}
 use Rattle.ranking.specs.Turned.{Turned, turned-none, turned-next}
-use Rattle.ranking.specs.Begins.{Begins, begins-at-end}
 use Rattle.ranking.specs.Ranked.{RankedSoFar, AllHeldUp}
 use Rattle.ranking.specs.RankedLaws.{held-up-from}
 use native.Mathlib.Omega.{arith}
@@ -13,71 +12,99 @@ use Rattle.ranking.proofs.rank_pass.Statement.{statement}
 use Rattle.ranking.proofs.rank_pass.Tie as tie
 use Rattle.ranking.proofs.rank_pass.Reads as reads
 use Rattle.ranking.proofs.rank_pass.Lts as lts
-use Rattle.ranking.proofs.begin_of.Reads as begin-of-reads
 use Rattle.ranking.proofs.rank_task.Reads as rank-task-reads
 
 abbrev Inv-loop : tie.InvT-loop
-Inv-loop s v ranks₀ left now-left₀ task₀ end₀ ranks now-left task end =
-    (task ≤ v .tasks)
-    × Begins (workflow-of s v) task end
-    × Turned (RankedSoFar (workflow-of s v)) (AllHeldUp (workflow-of s v) task) ranks₀ ranks left now-left
+Inv-loop s v begins ranks₀ left now-left₀ task₀ ranks now-left task =
+    (task ≤ v .tasks) × Turned (RankedSoFar (workflow-of s v)) (AllHeldUp (workflow-of s v) task) ranks₀ ranks left now-left
 
 abbrev μ-loop : tie.MeasureT-loop
-μ-loop s v ranks₀ left now-left₀ task₀ end₀ ranks now-left task end = task
+μ-loop s v begins ranks₀ left now-left₀ task₀ ranks now-left task = task
 
--- src/lib.rt:117:5
+-- src/lib.rt:128:5
 loop-holds : tie.Need-loop-holds Inv-loop μ-loop
 unfolding workflow
-loop-holds c =
-    let pre = c .before .pre in
-    let a = c .before .args in
-    let W = workflow-of (a .s .now) (a .v) in
-    let range = view-in-range (a .s .now) (a .v) (pre .0) in
-    (omega arith, begins-at-end W range, turned-none (pre .1) (λ i l below. absurd (omega arith)))
+loop-holds c = (omega arith, turned-none (c .before .pre .1 .1) (λ i l below. absurd (omega arith)))
 
--- src/lib.rt:118:9
+-- src/lib.rt:129:19
+mul-end : tie.Need-mul-end Inv-loop μ-loop
+unfolding workflow
+mul-end c =
+    let a = c .before .before .before .args in
+    omega (arith, view-in-range (a .s .now) (a .v) (c .before .before .before .pre .0) .tasks-in)
+
+-- src/lib.rt:129:19
+element-copy-out-end : tie.Need-element-copy-out-end Inv-loop μ-loop
+unfolding workflow
+element-copy-out-end c =
+    let a = c .before .before .before .args in
+    omega (arith, view-in-range (a .s .now) (a .v) (c .before .before .before .pre .0) .tasks-in)
+
+-- src/lib.rt:129:19
+cast-end : tie.Need-cast-end Inv-loop μ-loop
+unfolding workflow
+cast-end c =
+    let a = c .before .before .before .before .args in
+    let pre = c .before .before .before .before .pre in
+    let loop = c .before .before .loop in
+    omega (arith, pre .1 .0 .begin (loop .task) (omega arith) (omega arith) .within, view-in-range (a .s .now) (a .v) (pre .0) .edges-in)
+
+-- src/lib.rt:130:9
 sub-task : tie.Need-sub-task Inv-loop μ-loop
 sub-task c = omega arith
 
--- src/lib.rt:119:13
-begin-of-requires : tie.Need-begin-of-requires Inv-loop μ-loop
-begin-of-requires c κs =
-    let pre = c .before .before .before .pre in
-    let loop = c .before .loop in
-    let again : loop .task - 1 + 1 ≡ loop .task = omega arith in
-    (pre .0, rw again (loop .inv .1))
+-- src/lib.rt:131:21
+mul-begin : tie.Need-mul-begin Inv-loop μ-loop
+unfolding workflow
+mul-begin c =
+    let a = c .before .before .before .before .args in
+    omega (arith, view-in-range (a .s .now) (a .v) (c .before .before .before .before .pre .0) .tasks-in)
 
--- src/lib.rt:120:9
-rank-task-requires : tie.Need-rank-task-requires Inv-loop μ-loop
-rank-task-requires c κs =
+-- src/lib.rt:131:21
+element-copy-out-begin : tie.Need-element-copy-out-begin Inv-loop μ-loop
+unfolding workflow
+element-copy-out-begin c =
+    let a = c .before .before .before .before .args in
+    omega (arith, view-in-range (a .s .now) (a .v) (c .before .before .before .before .pre .0) .tasks-in)
+
+-- src/lib.rt:131:21
+cast-begin : tie.Need-cast-begin Inv-loop μ-loop
+unfolding workflow
+cast-begin c =
+    let a = c .before .before .before .before .before .args in
     let pre = c .before .before .before .before .before .pre in
     let loop = c .before .before .before .loop in
-    let begin-of = c .before .begin-of in
-    let again : loop .task - 1 + 1 ≡ loop .task = omega arith in
-    (pre .0, ((omega arith, loop .inv .2 .kept), (begin-of .ensures, rw again (loop .inv .1))))
+    omega (arith, pre .1 .0 .begin (loop .task - 1) (omega arith) (omega arith) .within, view-in-range (a .s .now) (a .v) (pre .0) .edges-in)
 
--- src/lib.rt:117:5
+-- src/lib.rt:132:9
+rank-task-requires : tie.Need-rank-task-requires Inv-loop μ-loop
+unfolding workflow
+rank-task-requires c κs =
+    let pre = c .before .before .before .before .before .before .pre in
+    let loop = c .before .before .before .before .loop in
+    let begins = pre .1 .0 .begin in
+    let again : loop .task - 1 + 1 ≡ loop .task = omega arith in
+    (pre .0, ((omega arith, loop .inv .1 .kept), (begins _ (omega arith) (omega arith), rw again (begins _ (omega arith) (omega arith)))))
+
+-- src/lib.rt:128:5
 loop-less : tie.Need-loop-less Inv-loop μ-loop
 loop-less c = omega arith
 
--- src/lib.rt:117:5
+-- src/lib.rt:128:5
 loop-again : tie.Need-loop-again Inv-loop μ-loop
 loop-again c =
-    let a = c .before .before .before .before .before .before .args in
-    let loop = c .before .before .before .before .loop in
-    let begin-of = c .before .before .begin-of in
-    let rank-task = c .rank-task in
-    let W = workflow-of (a .s .now) (a .v) in
+    let a = c .before .before .before .before .before .before .before .args in
+    let loop = c .before .before .before .before .before .loop in
     let again : loop .task - 1 + 1 ≡ loop .task = omega arith in
-    let so-far = loop .inv .2 in
-    (omega arith, begin-of .ensures, turned-next (held-up-from W (loop .task - 1)) (rw again so-far) (rank-task .ensures))
+    let so-far = loop .inv .1 in
+    (omega arith, turned-next (held-up-from (workflow-of (a .s .now) (a .v)) (loop .task - 1)) (rw again so-far) (c .rank-task .ensures))
 
--- src/lib.rt:109:1
+-- src/lib.rt:120:1
 returns : tie.Need-returns Inv-loop μ-loop
 returns c =
     let loop = c .before .loop in
     let none : loop .task ≡ 0 = omega arith in
-    rw none at (loop .inv .2)
+    rw none at (loop .inv .1)
 
 pub rank-pass-spec : {M : Type 1} → statement M
 rank-pass-spec =
@@ -86,8 +113,13 @@ rank-pass-spec =
     Inv-loop
     μ-loop
     loop-holds
+    mul-end
+    element-copy-out-end
+    cast-end
     sub-task
-    begin-of-requires
+    mul-begin
+    element-copy-out-begin
+    cast-begin
     rank-task-requires
     loop-less
     loop-again

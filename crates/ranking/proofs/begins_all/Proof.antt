@@ -1,0 +1,124 @@
+-- On the way back from the last task, each edge found is where the next task's edges begin.
+use Prim.Native.Nat.{_+_, _-_, _≤_}
+use mathlib.Core.Path.{_≡_, refl}
+use lib.ListN.{replicate}
+use Rattle.rules.specs.Workflow.{workflow}
+use Rattle.lookup.specs.Lookup.{workflow-of}
+use Rattle.lookup.specs.Views.{view-in-range}
+use Rattle.ranking.specs.Begins.{Begins, BeginsFrom, begins-at-end, begins-from}
+use native.Mathlib.Omega.{arith}
+use Rattle.ranking.proofs.begins_all.Statement.{statement}
+use Rattle.ranking.proofs.begins_all.Tie as tie
+use Rattle.ranking.proofs.begins_all.Reads as reads
+use Rattle.ranking.proofs.begins_all.Lts as lts
+use Rattle.ranking.proofs.begin_of.Reads as begin-of-reads
+
+abbrev Inv-loop : tie.InvT-loop
+Inv-loop s v begins₀ task₀ end₀ begins task end = (task ≤ v .tasks) × Begins (workflow-of s v) task end × BeginsFrom (workflow-of s v) task begins
+
+abbrev μ-loop : tie.MeasureT-loop
+μ-loop s v begins₀ task₀ end₀ begins task end = task
+
+-- src/lib.rt:63:20
+cast-begins : tie.Need-cast-begins Inv-loop μ-loop
+unfolding workflow
+cast-begins c =
+    let a = c .before .args in
+    omega (arith, view-in-range (a .s .now) (a .v) (c .before .pre) .edges-in)
+
+-- src/lib.rt:63:5
+mul-begins : tie.Need-mul-begins Inv-loop μ-loop
+unfolding workflow
+mul-begins c =
+    let a = c .before .args in
+    omega (arith, view-in-range (a .s .now) (a .v) (c .before .pre) .tasks-in)
+
+-- src/lib.rt:63:5
+array-write-begins : tie.Need-array-write-begins Inv-loop μ-loop
+unfolding workflow
+array-write-begins c =
+    let a = c .before .args in
+    omega (arith, view-in-range (a .s .now) (a .v) (c .before .pre) .tasks-in)
+
+-- src/lib.rt:64:5
+loop-holds : tie.Need-loop-holds Inv-loop μ-loop
+unfolding workflow
+loop-holds c =
+    let a = c .before .args in
+    let W = workflow-of (a .s .now) (a .v) in
+    let range = view-in-range (a .s .now) (a .v) (c .before .pre) in
+    let at-end = begins-at-end W range in
+    (omega arith, at-end, begins-from W (a .v .tasks) (a .v .edges) (replicate 65 0) refl (omega (arith, range .tasks-in)) at-end (λ later l below. absurd (omega arith)))
+
+-- src/lib.rt:65:9
+sub-task : tie.Need-sub-task Inv-loop μ-loop
+sub-task c = omega arith
+
+-- src/lib.rt:66:9
+begin-of-requires : tie.Need-begin-of-requires Inv-loop μ-loop
+begin-of-requires c κs =
+    let loop = c .before .loop in
+    let again : loop .task - 1 + 1 ≡ loop .task = omega arith in
+    (c .before .before .before .pre, rw again (loop .inv .1))
+
+-- src/lib.rt:67:24
+cast-begins-2 : tie.Need-cast-begins-2 Inv-loop μ-loop
+unfolding workflow
+cast-begins-2 c =
+    let a = c .before .before .before .before .args in
+    omega (arith, c .begin-of .ensures .within, view-in-range (a .s .now) (a .v) (c .before .before .before .before .pre) .edges-in)
+
+-- src/lib.rt:67:9
+mul-begins-2 : tie.Need-mul-begins-2 Inv-loop μ-loop
+unfolding workflow
+mul-begins-2 c =
+    let a = c .before .before .before .before .args in
+    omega (arith, view-in-range (a .s .now) (a .v) (c .before .before .before .before .pre) .tasks-in)
+
+-- src/lib.rt:67:9
+array-write-begins-2 : tie.Need-array-write-begins-2 Inv-loop μ-loop
+unfolding workflow
+array-write-begins-2 c =
+    let a = c .before .before .before .before .args in
+    omega (arith, view-in-range (a .s .now) (a .v) (c .before .before .before .before .pre) .tasks-in)
+
+-- src/lib.rt:64:5
+loop-less : tie.Need-loop-less Inv-loop μ-loop
+loop-less c = omega arith
+
+-- src/lib.rt:64:5
+loop-again : tie.Need-loop-again Inv-loop μ-loop
+unfolding workflow
+loop-again c =
+    let a = c .before .before .before .before .args in
+    let loop = c .before .before .loop in
+    let range = view-in-range (a .s .now) (a .v) (c .before .before .before .before .pre) in
+    let so-far = loop .inv .2 in
+    let here = c .begin-of .ensures in
+    (omega arith, here, begins-from (workflow-of (a .s .now) (a .v)) (loop .task - 1) _ (loop .begins) (so-far .size) (omega (arith, range .tasks-in)) here (λ later l below. so-far .begin later (omega arith) below))
+
+-- src/lib.rt:56:1
+returns : tie.Need-returns Inv-loop μ-loop
+returns c =
+    let loop = c .before .loop in
+    let none : loop .task ≡ 0 = omega arith in
+    rw none at (loop .inv .2)
+
+pub begins-all-spec : {M : Type 1} → statement M
+begins-all-spec =
+    tie.close
+    (tie.spec
+    Inv-loop
+    μ-loop
+    cast-begins
+    mul-begins
+    array-write-begins
+    loop-holds
+    sub-task
+    begin-of-requires
+    cast-begins-2
+    mul-begins-2
+    array-write-begins-2
+    loop-less
+    loop-again
+    returns)
