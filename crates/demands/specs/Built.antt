@@ -1,18 +1,17 @@
 -- How placing goes, by any method whose choices are processors: each task is the next, not placed before, and on the processor that was chosen.
 use Prim.Native.Nat.{ℕ, zero, suc, _+_, _≤_, _<_}
-use mathlib.Core.Path.{_≡_, refl, ap, subst}
-use mathlib.Core.Bool.{false, not}
+use mathlib.Core.Path.{_≡_, refl, subst}
+use mathlib.Core.Bool.{false}
 use mathlib.Core.List.{List, [], _∷_}
 use native.Mathlib.Omega.{arith}
 use lib.ListN.{length}
-use borrow.Author.Tests.{not-true}
 use Rattle.rules.specs.Workflow.{Workflow}
 use Rattle.rules.specs.Ranks.{next-task}
 use Rattle.rules.specs.Rows.{Placed, is-placed}
 use Rattle.rules.specs.Method.{Choice, take, nothing, Method}
 use Rattle.rules.specs.Placing.{question, row-on, Placing, so-far, stuck, put, place-next, place}
-use Rattle.laws.specs.First.{first-below, first-passes}
-use Rattle.laws.specs.Unmarked.{count-unmarked, sum-unmarked-less, count-unmarked-at-first, some-unmarked}
+use Rattle.laws.specs.Unmarked.{count-unmarked, sum-unmarked-less, count-unmarked-at-first}
+use Rattle.laws.specs.NextTask as laws
 use Rattle.demands.specs.MethodLaws.{ChoosesProcessors}
 
 -- Task i is placed next, on processor j.
@@ -41,10 +40,7 @@ module _ (M : Method) (W : Workflow) where
   pub next-task-free :
       (rows : List Placed) → Built M W rows → length rows < W .tasks
       → (next-task W (is-placed rows) < W .tasks) × (is-placed rows (next-task W (is-placed rows)) ≡ false)
-  unfolding next-task
-  next-task-free rows built l =
-      let (i, below, free) = some-unmarked (is-placed rows) (W .tasks) (omega (arith, built-count built)) in
-      (first-below (W .tasks) _ (omega arith), not-true _ (first-passes (λ t. not (is-placed rows t)) _ (W .tasks) i below (ap not free)))
+  next-task-free rows built l = laws.next-task-free W (is-placed rows) (omega (arith, built-count built))
 
   -- Where placing is not stuck, k tasks are placed so.
   abbrev pub PlacedSo : ℕ → Placing → Type 0

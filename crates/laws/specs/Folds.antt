@@ -1,10 +1,11 @@
 -- The laws of `sum`, `largest` and `lowest`, each read off `Fold`: one turn of a loop; the same for functions that are the same below the count;
 -- multiplied; bounds; attained.
 use Prim.Native.Nat.{ℕ, zero, suc, _+_, _*_, _≤_, _<_, max, min}
-use mathlib.Core.Path.{_≡_, refl, sym}
+use mathlib.Core.Path.{_≡_, refl, sym, ap}
 use mathlib.Core.Bool.{cond}
+use mathlib.Core.Logic.{⊎-elim}
 use native.Mathlib.Omega.{arith}
-use native.Mathlib.Nat.{mul-zero, mul-add, zero-max}
+use native.Mathlib.Nat.{mul-zero, mul-suc, mul-add, zero-max, eq-or-lt-of-le}
 use lib.Dec.{eqb}
 use Rattle.rules.specs.Folds.{sum, largest, lowest}
 use Rattle.laws.specs.Numbers.{max-either, min-either, max-multiplied, min-multiplied}
@@ -71,6 +72,15 @@ module _ (k : ℕ) (f : ℕ → ℕ) (each : (i : ℕ) → i < k → f i ≡ 0) 
   unfolding largest
   largest-of-none = fold-keeps max largest largest-joins (λ b. b ≡ 0) (λ a. a ≡ 0) k f refl (λ b a h g. omega arith) each
 
+-- From k to before n there is nothing but 0.
+pub largest-further : (k n : ℕ) (f : ℕ → ℕ) → k ≤ n → ((i : ℕ) → k ≤ i → i < n → f i ≡ 0) → largest n f ≡ largest k f
+unfolding largest
+largest-further k zero f l none = let e : 0 ≡ k = omega arith in ap (λ z. largest z f) e
+largest-further k (suc n) f l none =
+    ⊎-elim (λ (e : k ≡ suc n). ap (λ z. largest z f) (sym e))
+    (λ (m : k < suc n). omega (arith, largest-further k n f (omega arith) (λ i b h. none i b (omega arith)), none n (omega arith) (omega arith)))
+    (eq-or-lt-of-le l)
+
 -- A value that was 0 is now c.
 module _ (k n : ℕ) (f : ℕ → ℕ) (c : ℕ) (below : n < k) (was : f n ≡ 0) where
   pub sum-changed : sum k (λ i. cond (eqb n i) c (f i)) ≡ sum k f + c
@@ -86,6 +96,11 @@ pub sum-at-most : (k : ℕ) (f g : ℕ → ℕ) → ((i : ℕ) → i < k → f i
 unfolding sum
 sum-at-most zero f g each = omega arith
 sum-at-most (suc k) f g each = omega (arith, sum-at-most k f g (λ i l. each i (omega arith)), each k (omega arith))
+
+pub sum-at-most-each : (k : ℕ) (f : ℕ → ℕ) (c : ℕ) → ((i : ℕ) → i < k → f i ≤ c) → sum k f ≤ c * k
+unfolding sum
+sum-at-most-each zero f c each = omega arith
+sum-at-most-each (suc k) f c each = rw mul-suc (omega (arith, sum-at-most-each k f c (λ i l. each i (omega arith)), each k (omega arith)))
 
 module _ (k : ℕ) (f : ℕ → ℕ) where
   pub at-most-sum : (i : ℕ) → i < k → f i ≤ sum k f

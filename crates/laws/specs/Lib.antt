@@ -4,6 +4,7 @@ pub mod Fold
 pub mod Folds
 pub mod Any
 pub mod Listing
+pub mod Overwritten
 pub mod Orders
 pub mod First
 pub mod Strict
@@ -12,5 +13,6 @@ pub mod Leads
 pub mod Cycles
 pub mod Onward
 pub mod Unmarked
+pub mod NextTask
 pub mod Ranks
 pub mod Stores

@@ -65,6 +65,9 @@ lower-tie f i j = go (ltb (f i) (f j)) (eqb (f i) (f j))
     go false true = refl
     go false false = refl
 
+pub higher-tie : (f : ℕ → ℕ) (i j : ℕ) → higher f tie i j ≡ ltb (f j) (f i)
+higher-tie f i j = higher-lower f tie i j ∙ unfold tie in lower-tie f j i
+
 -- Figures that are a times others give the same order, where what decides ties is the same.
 module _ (a : ℕ) (pos : 1 ≤ a) (f g : ℕ → ℕ) (next onward : Order) (i j : ℕ)
     (at-i : f i ≡ a * g i)
