@@ -1,0 +1,90 @@
+-- The minutes of the processors passed are moved, and the others are as they were.
+use Prim.Native.Nat.{_≤_, _-_, max}
+use mathlib.Core.Path.{_≡_, ap, _∙_}
+use Rattle.hand.specs.Filled.{at}
+use Rattle.hand.specs.Hand.{WaitedFor}
+use Rattle.hand.specs.ReadyLaws.{waited-none, waited-more}
+use borrow.Author.Needs.{needs}
+use native.Mathlib.Omega.{arith}
+use Rattle.hand.proofs.wait_for.Statement.{statement}
+use Rattle.hand.proofs.wait_for.Tie as tie
+use Rattle.hand.proofs.wait_for.Reads as reads
+use Rattle.hand.proofs.wait_for.Lts as lts
+use Rattle.numbers.proofs.either.Reads as either-reads
+use Rattle.numbers.proofs.larger.Reads as larger-reads
+
+abbrev Inv-loop : tie.InvT-loop
+Inv-loop ready₀ m on here across j₀ ready j = (j ≤ m) × WaitedFor j on here across ready₀ ready
+
+abbrev μ-loop : tie.MeasureT-loop
+μ-loop ready₀ m on here across j₀ ready j = m - j
+
+-- src/lib.rt:41:5
+loop-holds : tie.Need-loop-holds Inv-loop μ-loop
+loop-holds c = (omega arith, waited-none)
+
+-- src/lib.rt:42:36
+mul-larger : tie.Need-mul-larger Inv-loop μ-loop
+mul-larger c = search needs
+
+-- src/lib.rt:42:36
+element-copy-out-larger : tie.Need-element-copy-out-larger Inv-loop μ-loop
+element-copy-out-larger c = search needs
+
+-- src/lib.rt:42:46
+either-requires : tie.Need-either-requires Inv-loop μ-loop
+either-requires c κs = search needs
+
+-- src/lib.rt:42:20
+larger-requires : tie.Need-larger-requires Inv-loop μ-loop
+larger-requires c κs = search needs
+
+-- src/lib.rt:42:9
+mul-ready : tie.Need-mul-ready Inv-loop μ-loop
+mul-ready c = search needs
+
+-- src/lib.rt:42:9
+element-write-ready : tie.Need-element-write-ready Inv-loop μ-loop
+element-write-ready c = search needs
+
+-- src/lib.rt:43:9
+add-j : tie.Need-add-j Inv-loop μ-loop
+add-j c = search needs
+
+-- src/lib.rt:41:5
+loop-less : tie.Need-loop-less Inv-loop μ-loop
+loop-less c = search needs
+
+-- src/lib.rt:41:5
+loop-again : tie.Need-loop-again Inv-loop μ-loop
+loop-again c =
+    let pre = c .before .before .before .before .before .pre in
+    let loop = c .before .before .before .before .loop in
+    let larger = c .larger .ensures ∙ ap (max (at (loop .ready) (loop .j))) (c .before .either .ensures) in
+    (omega arith, waited-more (loop .inv .1) (omega (arith, pre .1)) larger)
+
+-- src/lib.rt:36:1
+returns : tie.Need-returns Inv-loop μ-loop
+returns c =
+    let a = c .before .before .args in
+    let loop = c .before .loop in
+    let passed : loop .j ≡ a .m = omega arith in
+    rw passed at (loop .inv .1)
+
+pub wait-for-spec : {M : Type 1} → statement M
+wait-for-spec =
+    tie.close
+    (tie.spec
+    Inv-loop
+    μ-loop
+    loop-holds
+    mul-larger
+    element-copy-out-larger
+    either-requires
+    larger-requires
+    mul-ready
+    element-write-ready
+    add-j
+    loop-less
+    loop-again
+    returns)

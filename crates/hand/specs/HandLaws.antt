@@ -1,0 +1,110 @@
+-- The row of the task in hand, from arrays of its costs and finishes and the choice from them.
+use Prim.Native.Nat.{ℕ, _+_, _-_, _≤_, _<_, max}
+use mathlib.Core.Path.{_≡_, refl, sym, ap, _∙_}
+use mathlib.Core.List.{List}
+use native.Mathlib.Nat.{mul-le-mul}
+use native.Mathlib.Omega.{arith}
+use Rattle.rules.specs.Workflow.{Workflow}
+use Rattle.rules.specs.Folds.{lowest}
+use Rattle.rules.specs.Ranks.{cost, lowest-cost}
+use Rattle.rules.specs.Start.{Interval, start-on, latest-end}
+use Rattle.rules.specs.Method.{Question, HBCS}
+use Rattle.good.specs.Ranges as good
+use Rattle.laws.specs.Folds.{lowest-same, lowest-at-most}
+use Rattle.laws.specs.Method.{HBCS-same, HBCS-takes-processor}
+use Rattle.choosing.specs.declared.Choice.{Choice}
+use Rattle.choosing.specs.declared.Choice.the-variants.{Take, Nothing}
+use Rattle.choosing.specs.Asked.{asked, InRange, meant-choice}
+use Rattle.hand.specs.Filled.{at, AtMost, Filled}
+use Rattle.hand.specs.Busy.{kept-busy}
+use Rattle.hand.specs.Hand.{start-by, finish-by, question-by, hand-by}
+use Rattle.hand.specs.declared.Hand.{Hand}
+use Rattle.hand.specs.declared.Hand.the-variants as hand
+
+-- Processor j has a row for task i, which is read off the arrays of its costs and finishes.
+pub record RowOn (W : Workflow) (i j : ℕ) (costs finishes : List ℕ) (row : Hand) : Type 0 where
+  pub processor : j < W .processors
+  pub minutes-in-finish : W .minutes i j ≤ at finishes j
+  pub row-is : hand.Row j (at finishes j - W .minutes i j) (at finishes j) (at costs j) ≡ row
+
+-- No task starts before the latest finish that is kept.
+pub start-on-kept : (until : List ℕ) (j ready minutes : ℕ) → start-on (kept-busy until j) ready minutes ≡ max ready (at until j)
+unfolding start-on kept-busy latest-end
+start-on-kept until j ready minutes = omega arith
+
+pub finish-is :
+    (W : Workflow) (ready : ℕ → ℕ) (busy : ℕ → List Interval) (i j : ℕ) {minutes start : ℕ} → minutes ≡ W .minutes i j
+    → start ≡ start-on (busy j) (ready j) minutes → start + minutes ≡ finish-by W ready busy i j
+unfolding finish-by start-by
+finish-is W ready busy i j minutes start = rw (start, minutes)
+
+module _ (W : Workflow) (range : good.InRange W) (i : ℕ) where
+  pub cost-at-most : (j : ℕ) → cost W i j ≤ 200_000
+  unfolding cost
+  cost-at-most j = omega (arith, mul-le-mul (range .minutes-most i j) (range .price-in j))
+
+  pub lowest-cost-at-most : lowest-cost W i ≤ 200_000
+  unfolding lowest-cost
+  lowest-cost-at-most =
+      omega (arith, lowest-at-most (W .processors) (cost W i) 0 (range .processors-in .from-low), cost-at-most 0)
+
+  pub lowest-filled : {costs : List ℕ} → Filled (W .processors) (cost W i) costs → lowest (W .processors) (at costs) ≡ lowest-cost W i
+  unfolding lowest-cost
+  lowest-filled all = lowest-same (W .processors) _ (cost W i) (all .below) (range .processors-in .from-low)
+
+  -- A task takes at most 2,000 minutes from when its data is ready and the processor is free.
+  pub finish-at-most :
+      (ready : ℕ → ℕ) (until : List ℕ) (latest : ℕ) → ((j : ℕ) → ready j ≤ latest) → AtMost latest until
+      → (j : ℕ) → finish-by W ready (kept-busy until) i j ≤ latest + 2_000
+  unfolding finish-by start-by
+  finish-at-most ready until latest by-then kept j =
+      omega (arith, start-on-kept until j (ready j) (W .minutes i j), by-then j, kept j, range .minutes-most i j)
+
+  module _ (ready : ℕ → ℕ) (busy : ℕ → List Interval) (rb rcb : ℕ) {costs finishes : List ℕ}
+      (all-costs : Filled (W .processors) (cost W i) costs)
+      (all-finishes : Filled (W .processors) (finish-by W ready busy i) finishes) where
+    abbrev question : Question
+    question = asked (W .processors) costs finishes rb rcb
+
+    pub asked-in-range :
+        ((j : ℕ) → finish-by W ready busy i j ≤ 200_000) → rb ≤ 20_000_000 → rcb ≤ 12_800_000 → InRange question
+    asked-in-range few rb-most rcb-most =
+        record {
+          processors-least = range .processors-in .from-low;
+          processors-most = range .processors-in .to-high;
+          costs = λ j l. omega (arith, all-costs .below j l, cost-at-most j);
+          finishes = λ j l. omega (arith, all-finishes .below j l, few j);
+          RB = rb-most;
+          RCB = rcb-most;
+        }
+
+    asked-same : HBCS question ≡ HBCS (question-by W ready busy i rb rcb)
+    unfolding question-by
+    asked-same =
+        HBCS-same question _ (range .processors-in .from-low)
+        (record { processors = refl; cost = all-costs .below; finish = all-finishes .below; RB = refl; RCB = refl })
+
+    -- What the choice from the arrays gives.
+    abbrev row : Hand
+    row = hand-by W ready busy i (HBCS (question-by W ready busy i rb rcb))
+
+    module _ {choice : Choice} (chosen : meant-choice choice ≡ HBCS question) where
+      row-given : (answer : Choice) → choice ≡ answer → hand-by W ready busy i (meant-choice answer) ≡ row
+      row-given answer is = ap (λ x. hand-by W ready busy i (meant-choice x)) (sym is) ∙ ap (hand-by W ready busy i) (chosen ∙ asked-same)
+
+      pub no-row : choice ≡ Nothing → hand.Nothing ≡ row
+      unfolding hand-by meant-choice
+      no-row = row-given Nothing
+
+      pub row-on : {j : ℕ} → choice ≡ Take j → RowOn W i j costs finishes row
+      unfolding hand-by finish-by meant-choice
+      row-on {j} taken =
+          let below : j < W .processors =
+          HBCS-takes-processor question j (range .processors-in .from-low) (sym chosen ∙ ap meant-choice taken) in
+          let finish = all-finishes .below j below in
+          let start : at finishes j - W .minutes i j ≡ start-by W ready busy i j = omega (arith, finish) in
+          record {
+            processor = below;
+            minutes-in-finish = omega (arith, finish);
+            row-is = rw (start, finish, all-costs .below j below) (row-given (Take j) taken);
+          }

@@ -1,0 +1,7 @@
+pub mod Filled
+pub mod FilledLaws
+pub mod Busy
+pub mod Hand
+pub mod ReadyLaws
+pub mod HandLaws
+pub mod Settled
