@@ -1,0 +1,309 @@
+-- After each turn the rows so far are the rules', and what is kept is what they come to; a turn without a row is where the rules are stuck.
+use Prim.Native.Nat.{_+_, _-_, _≤_, _<_, max}
+use mathlib.Core.Path.{_≡_, refl, _∙_}
+use mathlib.Core.Bool.{true}
+use mathlib.Core.List.{List}
+use lib.ListN.{set}
+use Rattle.rules.specs.Workflow.{Workflow, workflow}
+use Rattle.rules.specs.Ranks.{next-task}
+use Rattle.rules.specs.Rows.{Placed, is-placed}
+use Rattle.rules.specs.Method.{HBCS}
+use Rattle.rules.specs.Placing.{RCB}
+use Rattle.good.specs.Ranges.{InRange}
+use Rattle.lookup.specs.Lookup.{workflow-of}
+use Rattle.lookup.specs.Views.{view-in-range}
+use Rattle.laws.specs.Method.{HBCS-chooses-among}
+use Rattle.hand.specs.HandLaws.{lowest-filled}
+use Rattle.placing.specs.Kept.{Kept}
+use Rattle.placing.specs.KeptHand.{ready-in-turn}
+use Rattle.placing.specs.KeptLaws.{kept-first, ends-within, until-within, rb-within, rcb-within, next-kept, next-free, rcb-less}
+use Rattle.placing.specs.KeptMore.{processor, kept-stuck, kept-more}
+use Rattle.placing.specs.PlacedAll.{placed-all, placed-stuck}
+use borrow.Author.Needs.{needs}
+use native.Mathlib.Omega.{arith}
+use Rattle.placing.proofs.place.Statement.{statement}
+use Rattle.placing.proofs.place.Tie as tie
+use Rattle.placing.proofs.place.Reads as reads
+use Rattle.placing.proofs.place.Lts as lts
+use Rattle.hand.proofs.cost_on_all.Reads as cost-on-all-reads
+use Rattle.hand.proofs.lowest_of.Reads as lowest-of-reads
+use Rattle.hand.proofs.ready_on_all.Reads as ready-on-all-reads
+use Rattle.hand.proofs.row_for.Reads as row-for-reads
+use Rattle.links.proofs.link_all.Reads as link-all-reads
+use Rattle.numbers.proofs.larger.Reads as larger-reads
+use Rattle.numbers.proofs.less.Reads as less-reads
+use Rattle.placing.proofs.next_task.Reads as next-task-reads
+
+abbrev Inv-loop : tie.InvT-loop
+Inv-loop s v ranks cheapest links sits₀ starts₀ ends₀ costs₀ placed₀ processors₀ rb₀ spent₀ rcb₀ length₀ k₀
+    sits starts ends costs placed processors rb spent rcb length k =
+    (k ≤ v .tasks) × Kept HBCS (workflow-of s v) k sits starts ends costs placed (processors .until) rb spent rcb length
+
+abbrev μ-loop : tie.MeasureT-loop
+μ-loop s v ranks cheapest links sits₀ starts₀ ends₀ costs₀ placed₀ processors₀ rb₀ spent₀ rcb₀ length₀ k₀
+    sits starts ends costs placed processors rb spent rcb length k =
+    v .tasks - k
+
+-- src/lib.rt:62:17
+link-all-requires : tie.Need-link-all-requires Inv-loop μ-loop
+link-all-requires c κs = c .before .pre .0
+
+-- src/lib.rt:74:5
+loop-holds : tie.Need-loop-holds Inv-loop μ-loop
+unfolding workflow
+loop-holds c =
+    let pre = c .before .before .pre in
+    (omega arith, kept-first HBCS _ refl (pre .1 .1))
+
+-- src/lib.rt:75:13
+next-task-requires : tie.Need-next-task-requires Inv-loop μ-loop
+unfolding workflow
+next-task-requires c κs =
+    let start = c .before .before .before .before .before .before in
+    let range = view-in-range (start .args .s .now) (start .args .v) (start .pre .0) in
+    (range .tasks-in .from-low, range .tasks-in .to-high, start .pre .1 .0 .at-most)
+
+-- In a turn: the workflow, which is in range, the rows so far, and that a task is left.
+abbrev flow : tie.After-next-task Inv-loop μ-loop → Workflow
+flow c = let a = c .before .before .before .before .before .before .before .args in workflow-of (a .s .now) (a .v)
+
+abbrev rows-so-far : tie.After-next-task Inv-loop μ-loop → List Placed
+rows-so-far c = c .before .before .before .before .loop .inv .1 .rows
+
+in-range : (c : tie.After-next-task Inv-loop μ-loop) → InRange (flow c)
+in-range c =
+    let start = c .before .before .before .before .before .before .before in
+    view-in-range (start .args .s .now) (start .args .v) (start .pre .0)
+
+left : (c : tie.After-next-task Inv-loop μ-loop) → c .before .before .before .before .loop .k < flow c .tasks
+unfolding workflow
+left c = c .before .before .if1 .taken
+
+-- The task in hand is the rules' next.
+next-is : (c : tie.After-next-task Inv-loop μ-loop) → c .next-task .result ≡ next-task (flow c) (is-placed (rows-so-far c))
+unfolding workflow
+next-is c =
+    let pre = c .before .before .before .before .before .before .before .pre in
+    next-kept (in-range c) (c .before .before .before .before .loop .inv .1) (left c) (pre .1 .0) (c .next-task .ensures)
+
+task-below : (c : tie.After-next-task Inv-loop μ-loop) → c .next-task .result < flow c .tasks
+task-below c = next-free (in-range c) (c .before .before .before .before .loop .inv .1) (left c) (next-is c) .0
+
+task-in-array : (c : tie.After-next-task Inv-loop μ-loop) → c .next-task .result < 64
+task-in-array c = omega (arith, task-below c, in-range c .tasks-in)
+
+-- What is still to come after it.
+rcb-is : (c : tie.After-lowest-of Inv-loop μ-loop) →
+    let rcb = c .before .before .before .before .before .before .before .loop .rcb in
+    let turn = c .before .before .before in
+    (c .lowest-of .result ≤ rcb) × (rcb - c .lowest-of .result ≡ RCB (flow turn) (rows-so-far turn) (turn .next-task .result))
+unfolding workflow
+rcb-is c =
+    let turn = c .before .before .before in
+    let lowest-is = c .lowest-of .ensures ∙ lowest-filled _ (in-range turn) _ (c .before .before .cost-on-all .ensures) in
+    rcb-less (in-range turn) (turn .before .before .before .before .loop .inv .1) (left turn) (next-is turn) lowest-is
+
+-- Once the task has its row: the turn that it ended, and what is kept after it.
+abbrev turn-of : tie.After-known-told Inv-loop μ-loop → tie.After-next-task Inv-loop μ-loop
+turn-of c = c .before .before .before .before .before .before .before .before .before .before .before .before .before .before .before .before .before
+
+turned : (c : tie.After-known-told Inv-loop μ-loop) →
+    let turn = turn-of c in
+    let loop = turn .before .before .before .before .loop in
+    let i = turn .next-task .result in
+    let given = c .before .row .given .0 in
+    let p = given .0 in
+    let finish = given .1 .1 .0 in
+    let cost = given .1 .1 .1 .0 in
+    (p < 16) × Kept HBCS (flow turn) (loop .k + 1) (set (loop .sits) i p) (set (loop .starts) i (given .1 .0)) (set (loop .ends) i finish)
+    (set (loop .costs) i cost) (set (loop .placed) i true) (set (loop .processors .until) p finish) (loop .rb - cost) (loop .spent + cost)
+    (loop .rcb - c .before .before .before .before .before .before .before .before .before .before .before .before .before .before .lowest-of .result) (max (loop .length) finish)
+unfolding workflow
+turned c =
+    let turn = turn-of c in
+    let kept = turn .before .before .before .before .loop .inv .1 in
+    let processors-in = in-range turn .processors-in in
+    let to-come = rcb-is (c .before .before .before .before .before .before .before .before .before .before .before .before .before .before) .1 in
+    let handed = rw (c .before .row .given .1) at (c .before .before .before .row-for .ensures) in
+    let all-ready = c .before .before .before .before .before .before .before .before .ready-on-all .ensures in
+    let below = processor HBCS-chooses-among (in-range turn) kept (left turn) (next-is turn) all-ready to-come handed in
+    (omega (arith, below, processors-in .to-high), kept-more HBCS-chooses-among (in-range turn) kept (left turn) (next-is turn) all-ready to-come handed)
+
+-- src/lib.rt:76:24
+cost-on-all-requires : tie.Need-cost-on-all-requires Inv-loop μ-loop
+unfolding workflow
+cost-on-all-requires c κs =
+    let start = c .before .before .before .before .before .before .before in
+    (start .pre .0, task-below c)
+
+-- src/lib.rt:77:13
+lowest-of-requires : tie.Need-lowest-of-requires Inv-loop μ-loop
+unfolding workflow
+lowest-of-requires c κs =
+    let processors-in = in-range (c .before .before) .processors-in in
+    (processors-in .from-low, processors-in .to-high)
+
+-- src/lib.rt:78:15
+sub-rcb : tie.Need-sub-rcb Inv-loop μ-loop
+sub-rcb c = rcb-is c .0
+
+-- src/lib.rt:79:21
+ready-on-all-requires : tie.Need-ready-on-all-requires Inv-loop μ-loop
+unfolding workflow
+ready-on-all-requires c κs =
+    let turn = c .before .before .before .before .before .before .before .before in
+    let kept = turn .before .before .before .before .loop .inv .1 in
+    (turn .before .before .before .before .before .before .before .pre .0, (task-below turn, turn .before .before .before .before .before .link-all .ensures, ends-within (in-range turn) kept (left turn)))
+
+-- src/lib.rt:80:13
+row-for-requires : tie.Need-row-for-requires Inv-loop μ-loop
+unfolding workflow
+row-for-requires c κs =
+    let turn = c .before .before .before .before .before .before .before .before .before .before .before .before .before in
+    let kept = turn .before .before .before .before .loop .inv .1 in
+    let costs-of = c .before .before .before .before .before .before .before .before .before .before .before .before .cost-on-all in
+    let all-ready = c .before .before .before .before .ready-on-all .ensures in (
+      turn .before .before .before .before .before .before .before .pre .0,
+      (
+        (
+          task-below turn,
+          ready-in-turn HBCS-chooses-among (in-range turn) kept _ all-ready (left turn),
+          until-within (in-range turn) kept (left turn),
+        ),
+        (costs-of .ensures, rb-within (in-range turn) kept (left turn), omega (arith, rcb-within (in-range turn) kept (left turn))),
+      ),
+    )
+
+-- src/lib.rt:82:13
+enum-known-row : tie.Need-enum-known-row Inv-loop μ-loop
+enum-known-row c = search needs
+
+-- src/lib.rt:89:26
+enum-told : tie.Need-enum-told Inv-loop μ-loop
+enum-told c = search needs
+
+-- src/lib.rt:88:13
+returns : tie.Need-returns Inv-loop μ-loop
+unfolding workflow
+returns c =
+    let turn = c .before .before .before .before .before .before .before .before .before .before .before .before .before .before .before .before in
+    let kept = turn .before .before .before .before .loop .inv .1 in
+    let to-come = rcb-is (c .before .before .before .before .before .before .before .before .before .before .before .before .before) .1 in
+    let all-ready = c .before .before .before .before .before .before .before .ready-on-all .ensures in
+    let handed = rw (c .enum-told .given .1) at (c .before .before .row-for .ensures) in
+    placed-stuck (kept-stuck HBCS-chooses-among (in-range turn) kept (left turn) (next-is turn) all-ready to-come handed)
+
+-- src/lib.rt:96:9
+mul-sits : tie.Need-mul-sits Inv-loop μ-loop
+mul-sits c = omega (arith, task-in-array (turn-of c))
+
+-- src/lib.rt:96:9
+array-write-sits : tie.Need-array-write-sits Inv-loop μ-loop
+array-write-sits c = task-in-array (turn-of c)
+
+-- src/lib.rt:97:9
+mul-starts : tie.Need-mul-starts Inv-loop μ-loop
+mul-starts c = omega (arith, task-in-array (turn-of c))
+
+-- src/lib.rt:97:9
+array-write-starts : tie.Need-array-write-starts Inv-loop μ-loop
+array-write-starts c = task-in-array (turn-of c)
+
+-- src/lib.rt:98:9
+mul-ends : tie.Need-mul-ends Inv-loop μ-loop
+mul-ends c = omega (arith, task-in-array (turn-of c))
+
+-- src/lib.rt:98:9
+array-write-ends : tie.Need-array-write-ends Inv-loop μ-loop
+array-write-ends c = task-in-array (turn-of c)
+
+-- src/lib.rt:99:9
+mul-costs : tie.Need-mul-costs Inv-loop μ-loop
+mul-costs c = omega (arith, task-in-array (turn-of c))
+
+-- src/lib.rt:99:9
+array-write-costs : tie.Need-array-write-costs Inv-loop μ-loop
+array-write-costs c = task-in-array (turn-of c)
+
+-- src/lib.rt:100:9
+array-write-placed : tie.Need-array-write-placed Inv-loop μ-loop
+array-write-placed c = task-in-array (turn-of c)
+
+-- src/lib.rt:101:9
+mul-processors : tie.Need-mul-processors Inv-loop μ-loop
+mul-processors c = omega (arith, turned c .0)
+
+-- src/lib.rt:101:9
+element-write-processors : tie.Need-element-write-processors Inv-loop μ-loop
+element-write-processors c = turned c .0
+
+-- src/lib.rt:102:9
+less-requires : tie.Need-less-requires Inv-loop μ-loop
+less-requires c κs = search needs
+
+-- src/lib.rt:103:17
+add-spent : tie.Need-add-spent Inv-loop μ-loop
+add-spent c = omega (arith, turned (c .before) .1 .spent-most, left (turn-of (c .before)), in-range (turn-of (c .before)) .tasks-in)
+
+-- src/lib.rt:104:9
+larger-requires : tie.Need-larger-requires Inv-loop μ-loop
+larger-requires c κs = search needs
+
+-- src/lib.rt:105:9
+add-k : tie.Need-add-k Inv-loop μ-loop
+add-k c =
+    let turn = turn-of (c .before .before) in
+    omega (arith, left turn, in-range turn .tasks-in)
+
+-- src/lib.rt:74:5
+loop-less : tie.Need-loop-less Inv-loop μ-loop
+unfolding workflow
+loop-less c = omega (arith, left (turn-of (c .before .before)))
+
+-- src/lib.rt:74:5
+loop-again : tie.Need-loop-again Inv-loop μ-loop
+unfolding workflow
+loop-again c =
+    let turned = turned (c .before .before) .1 in
+    (omega (arith, left (turn-of (c .before .before))), rw (c .larger .ensures, c .before .less .ensures) turned)
+
+-- src/lib.rt:57:1
+returns-2 : tie.Need-returns-2 Inv-loop μ-loop
+unfolding workflow
+returns-2 c = placed-all (c .before .before .loop .inv .1) (omega arith)
+
+pub place-spec : {M : Type 1} → statement M
+place-spec =
+    tie.close
+    (tie.spec
+    Inv-loop
+    μ-loop
+    link-all-requires
+    loop-holds
+    next-task-requires
+    cost-on-all-requires
+    lowest-of-requires
+    sub-rcb
+    ready-on-all-requires
+    row-for-requires
+    enum-known-row
+    enum-told
+    returns
+    mul-sits
+    array-write-sits
+    mul-starts
+    array-write-starts
+    mul-ends
+    array-write-ends
+    mul-costs
+    array-write-costs
+    array-write-placed
+    mul-processors
+    element-write-processors
+    less-requires
+    add-spent
+    larger-requires
+    add-k
+    loop-less
+    loop-again
+    returns-2)

@@ -1,0 +1,9 @@
+pub mod Placed
+pub mod Standing
+pub mod Kept
+pub mod Arrays
+pub mod KeptHand
+pub mod KeptLaws
+pub mod KeptMore
+pub mod PlacedAll
+pub mod Settled

@@ -1,0 +1,51 @@
+-- What the code's placing says, in the rules' words.
+use Prim.Native.Nat.{ℕ, _+_, _-_, _<_}
+use mathlib.Core.Path.{_≡_}
+use mathlib.Core.Bool.{Bool, false, cond}
+use mathlib.Core.List.{List, []}
+use lib.ListN.{length, getD}
+use Rattle.rules.specs.Workflow.{Workflow}
+use Rattle.rules.specs.Ranks.{R}
+use Rattle.rules.specs.Rows.{Row, Placed, row-of, spent, length-of}
+use Rattle.rules.specs.Method.{HBCS}
+use Rattle.rules.specs.Placing as rules
+use Rattle.hand.specs.Filled.{at, AtMost}
+use Rattle.placing.specs.declared.Outcome.{Outcome}
+use Rattle.placing.specs.declared.Outcome.the-variants as outcome
+use Rattle.placing.specs.declared.Placing.{Placing}
+
+-- 1 more than the rank of a task that is not placed; 0 for one that is. The higher standing goes first.
+unfoldable pub standing-in : List ℕ → List Bool → ℕ → ℕ
+standing-in ranks placed i = cond (getD placed i false) 0 (at ranks i + 1)
+
+-- The array holds the ranks of all tasks.
+pub record RanksOf (W : Workflow) (ranks : List ℕ) : Type 0 where
+  pub are : (i : ℕ) → i < W .tasks → at ranks i ≡ R W i
+  pub at-most : AtMost 3_072_000 ranks
+
+-- An array of 64 that holds one field of each task's row, and 0 for a task that has none.
+pub record Column (field : Row → ℕ) (rows : List Placed) (xs : List ℕ) : Type 0 where
+  pub size : length xs ≡ 64
+  pub holds : (i : ℕ) → at xs i ≡ field (row-of rows i)
+
+-- Four such arrays.
+pub record Columns (rows : List Placed) (processors starts finishes costs : List ℕ) : Type 0 where
+  pub processors-hold : Column (λ r. r .processor) rows processors
+  pub starts-hold : Column (λ r. r .start) rows starts
+  pub finishes-hold : Column (λ r. r .finish) rows finishes
+  pub costs-hold : Column (λ r. r .cost) rows costs
+
+-- How a placing is told: length, cost and budget left, or the task that has no processor it may take.
+unfoldable pub told : Workflow → rules.Placing → Outcome
+told W (rules.so-far rows) = outcome.All (length-of rows) (spent rows) (W .budget - spent rows)
+told W (rules.stuck i) = outcome.Stuck i
+
+-- The rows of a placing: none where it is stuck.
+unfoldable pub rows-placed : rules.Placing → List Placed
+rows-placed (rules.so-far rows) = rows
+rows-placed (rules.stuck i) = []
+
+-- The answer is the rules' placing of all tasks.
+pub record PlacedAs (W : Workflow) (r : Placing) : Type 0 where
+  pub outcome-is : r .outcome ≡ told W (rules.place HBCS W (W .tasks))
+  pub columns : Columns (rows-placed (rules.place HBCS W (W .tasks))) (r .processors) (r .starts) (r .finishes) (r .costs)

@@ -1,0 +1,38 @@
+-- The two ways that placing ends: all tasks have a row, or one has no processor it may take.
+use Prim.Native.Nat.{ℕ}
+use mathlib.Core.Path.{_≡_, sym, ap, _∙_}
+use mathlib.Core.Bool.{Bool}
+use mathlib.Core.List.{List}
+use lib.ListN.{replicate}
+use Rattle.rules.specs.Workflow.{Workflow}
+use Rattle.rules.specs.Method.{HBCS}
+use Rattle.rules.specs.Placing.{so-far, stuck, place}
+use Rattle.placing.specs.declared.Outcome.the-variants as outcome
+use Rattle.placing.specs.Placed.{PlacedAs, told, rows-placed}
+use Rattle.placing.specs.Kept.{Kept}
+use Rattle.placing.specs.Arrays.{columns-first}
+
+pub placed-all :
+    {W : Workflow} {k : ℕ} {sits starts ends costs : List ℕ} {placed : List Bool} {until : List ℕ} {rb paid rcb length : ℕ}
+    → Kept HBCS W k sits starts ends costs placed until rb paid rcb length → k ≡ W .tasks
+    → PlacedAs W (record { outcome = outcome.All length paid rb; processors = sits; starts = starts; finishes = ends; costs = costs })
+unfolding told rows-placed
+placed-all {W} kept e =
+    let all : place HBCS W (W .tasks) ≡ so-far (kept .rows) = ap (place HBCS W) (sym e) ∙ kept .placed-so-far in
+    record {
+      outcome-is = rw all (λ t. outcome.All (kept .length-is t) (kept .spent-is t) (kept .rb-is t));
+      columns = rw all (kept .columns);
+    }
+
+pub placed-stuck :
+    {W : Workflow} {i : ℕ} → place HBCS W (W .tasks) ≡ stuck i
+    → PlacedAs W
+    (record {
+      outcome = outcome.Stuck i;
+      processors = replicate 64 0;
+      starts = replicate 64 0;
+      finishes = replicate 64 0;
+      costs = replicate 64 0;
+    })
+unfolding told rows-placed
+placed-stuck all = record { outcome-is = rw all; columns = rw all columns-first }
