@@ -1,0 +1,129 @@
+-- The plan's columns are stored over the front of the buffers, as many numbers of each as the answer has rows.
+use Prim.Native.Nat.{_≤_, min}
+use Rattle.planner.specs.Planned.{PlanOf, rows-lent, outcome-into}
+use Rattle.planner.specs.Reach.{rows-in-reach}
+use Rattle.planner.specs.Stored.{column-stored}
+use native.Mathlib.Omega.{arith}
+use borrow.Author.Needs.{needs}
+use Rattle.planner.proofs.plan_into.Statement.{statement}
+use Rattle.planner.proofs.plan_into.Tie as tie
+use Rattle.planner.proofs.plan_into.Reads as reads
+use Rattle.planner.proofs.plan_into.Lts as lts
+use Rattle.planner.proofs.plan.Reads as plan-reads
+use Rattle.planner.proofs.rows_of.Reads as rows-of-reads
+use Rattle.planner.proofs.shortest.Reads as shortest-reads
+use Rattle.planner.proofs.store.Reads as store-reads
+
+-- The plan for as many rows as the shortest buffer has numbers.
+planned : (c : tie.After-rows-of) →
+    let a = c .before .before .before .before .before .before .before .before .args in
+    PlanOf (outcome-into (a .request .now) (a .processors .now) (a .starts .now) (a .finishes .now) (a .costs .now)) (c .before .plan .result)
+unfolding rows-lent
+planned c = rw (c .before .before .shortest .ensures) at (c .before .plan .ensures)
+
+-- Its rows are in the columns, and each buffer has room for them.
+in-reach : (c : tie.After-rows-of) →
+    let a = c .before .before .before .before .before .before .before .before .args in
+    c .rows-of .result ≤ min (rows-lent (a .processors .now) (a .starts .now) (a .finishes .now) (a .costs .now)) 64
+in-reach c = rw (c .rows-of .ensures) (rows-in-reach _ _ (c .before .plan .result .answer) (planned c .answer-is))
+
+-- src/lib.rt:190:9
+shortest-requires : tie.Need-shortest-requires
+shortest-requires c κs = search needs
+
+-- src/lib.rt:191:13
+plan-requires : tie.Need-plan-requires
+plan-requires c κs = search needs
+
+-- src/lib.rt:193:13
+rows-of-requires : tie.Need-rows-of-requires
+rows-of-requires c κs = search needs
+
+-- src/lib.rt:194:5
+store-requires : tie.Need-store-requires
+unfolding rows-lent
+store-requires c κs = let fits = in-reach (c .before .before .before) in (omega arith, omega arith)
+
+-- src/lib.rt:195:5
+store-requires-2 : tie.Need-store-requires-2
+unfolding rows-lent
+store-requires-2 c κs =
+    let store = c .before .before .before .before .before in
+    let fits = in-reach (store .before .before .before .before) in (omega arith, omega arith)
+
+-- src/lib.rt:196:5
+store-requires-3 : tie.Need-store-requires-3
+unfolding rows-lent
+store-requires-3 c κs =
+    let store2 = c .before .before .before .before .before in
+    let store = store2 .before .before .before .before .before .before in
+    let fits = in-reach (store .before .before .before .before) in (omega arith, omega arith)
+
+-- src/lib.rt:197:5
+store-requires-4 : tie.Need-store-requires-4
+unfolding rows-lent
+store-requires-4 c κs =
+    let store3 = c .before .before .before .before .before in
+    let store2 = store3 .before .before .before .before .before .before in
+    let store = store2 .before .before .before .before .before .before in
+    let fits = in-reach (store .before .before .before .before) in (omega arith, omega arith)
+
+-- src/lib.rt:181:1
+same-length : tie.Need-same-length
+same-length c = search needs
+
+-- src/lib.rt:181:1
+same-length-2 : tie.Need-same-length-2
+same-length-2 c = search needs
+
+-- src/lib.rt:181:1
+same-length-3 : tie.Need-same-length-3
+same-length-3 c = search needs
+
+-- src/lib.rt:181:1
+same-length-4 : tie.Need-same-length-4
+same-length-4 c = search needs
+
+-- src/lib.rt:181:1
+returns : tie.Need-returns
+returns c =
+    let store4 = c .before .before in
+    let store3 = store4 .before .before .before .before .before .before in
+    let store2 = store3 .before .before .before .before .before .before in
+    let store = store2 .before .before .before .before .before .before in
+    let rows-of = store .before .before .before .before in
+    let a = rows-of .before .before .before .before .before .before .before .before .args in
+    let o = outcome-into (a .request .now) (a .processors .now) (a .starts .now) (a .finishes .now) (a .costs .now) in
+    let answer = rows-of .before .plan .result .answer in
+    let is = planned rows-of .answer-is in
+    let columns = planned rows-of .columns in
+    let count = rows-of .rows-of .ensures in
+    record {
+      answer-is = is;
+      after =
+          record {
+            processors-after =
+                column-stored (λ row. row .processor) (a .processors .now) o answer is count (columns .processors-hold) (store .store .ensures);
+            starts-after = column-stored (λ row. row .start) (a .starts .now) o answer is count (columns .starts-hold) (store2 .store2 .ensures);
+            finishes-after =
+                column-stored (λ row. row .finish) (a .finishes .now) o answer is count (columns .finishes-hold) (store3 .store3 .ensures);
+            costs-after = column-stored (λ row. row .cost) (a .costs .now) o answer is count (columns .costs-hold) (store4 .store4 .ensures);
+          };
+    }
+
+pub plan-into-spec : {M : Type 1} → statement M
+plan-into-spec =
+    tie.close
+    (tie.spec
+    shortest-requires
+    plan-requires
+    rows-of-requires
+    store-requires
+    store-requires-2
+    store-requires-3
+    store-requires-4
+    same-length
+    same-length-2
+    same-length-3
+    same-length-4
+    returns)

@@ -1,0 +1,199 @@
+// The plan of a request: the answer, and the rows in flat number buffers.
+ghost use mathlib.Core.Path.{_≡_};
+ghost use mathlib.Core.List.{_++_};
+ghost use Prim.Native.Nat.{_≤_, min};
+ghost use lib.ListN.{length, drop};
+ghost use Rattle.rules.specs.Folds.{listing};
+ghost use Rattle.rules.specs.Method.{HBCS};
+ghost use Rattle.rules.specs.Placing as rules;
+ghost use Rattle.rules.specs.Answer.{refusal, too-late, placed-outcome, outcome-by, outcome};
+ghost use Rattle.reader.specs.Meaning.{ViewOf, meant-deadline};
+ghost use Rattle.lookup.specs.Lookup.{workflow-of};
+ghost use Rattle.hand.specs.Filled.{at};
+ghost use Rattle.placing.specs.Placed.{RanksOf, PlacedAs};
+ghost use Rattle.planner.specs.Planned.{PlanOf, outcome-within, rows-told, PlannedInto};
+use placing::Outcome;
+use placing::Placing;
+use reader::Deadline;
+use reader::Reading;
+use reader::View;
+
+// "Either a plan summary (n, length, cost, budget left) or a refusal (number, place)."
+pub enum Answer {
+    Planned {
+        n: u64,
+        length: u64,
+        cost: u64,
+        left: u64,
+    },
+    Refused {
+        number: u64,
+        place: u64,
+    },
+}
+
+// The answer, and the rows of all tasks in four arrays; 0 past the last task, and in all of them for a refusal.
+pub struct Planning {
+    pub answer: Answer,
+    pub processors: [u64; 64],
+    pub starts: [u64; 64],
+    pub finishes: [u64; 64],
+    pub costs: [u64; 64],
+}
+
+// A refusal, with no row.
+fn refused(number: u64, place: u64) -> Planning
+    ensures { λ r. ⌜ PlanOf (refusal number place) r ⌝ }
+{
+    Planning {
+        answer: Answer::Refused { number, place },
+        processors: [0u64; 64],
+        starts: [0u64; 64],
+        finishes: [0u64; 64],
+        costs: [0u64; 64],
+    }
+}
+
+// "length above the deadline"
+fn too_late(deadline: Deadline, length: u64) -> bool
+    ensures { λ r. ⌜ r ≡ too-late (meant-deadline deadline) length ⌝ }
+{
+    match deadline {
+        Deadline::Without => false,
+        Deadline::By(minutes) => minutes < length,
+    }
+}
+
+// What a placing of all tasks is answered with: 10, 11, or the plan.
+fn plan_placed(s: &[u8], v: View, p: Placing) -> Planning
+    requires { ⌜ PlacedAs (workflow-of (now s) v) p ⌝ }
+    ensures { λ r. ⌜ PlanOf (placed-outcome (workflow-of (now (s .entry)) v) (rules.place HBCS (workflow-of (now (s .entry)) v) (v .tasks))) r ⌝ }
+{
+    let outcome = p.outcome;
+    match outcome {
+        Outcome::Stuck(task) => refused(10, task as u64),
+        Outcome::All { length, cost, left } => {
+            let deadline = v.deadline;
+            if too_late(deadline, length) {
+                return refused(11, length);
+            }
+            let processors = p.processors;
+            let starts = p.starts;
+            let finishes = p.finishes;
+            let costs = p.costs;
+            Planning {
+                answer: Answer::Planned {
+                    n: v.tasks as u64,
+                    length,
+                    cost,
+                    left,
+                },
+                processors,
+                starts,
+                finishes,
+                costs,
+            }
+        }
+    }
+}
+
+// Check 9, then placing.
+fn plan_ranked(s: &[u8], v: View, ranks: &[u64; 64]) -> Planning
+    requires { ⌜ ViewOf (now s) v ⌝ }
+    requires { ⌜ RanksOf (workflow-of (now s) v) (now ranks) ⌝ }
+    ensures { λ r. ⌜ PlanOf (outcome-within (workflow-of (now (s .entry)) v)) r ⌝ }
+{
+    let cheapest = hand::cheapest_total(s, v);
+    if v.budget < cheapest {
+        return refused(9, cheapest);
+    }
+    plan_placed(s, v, placing::place(s, v, ranks, cheapest))
+}
+
+// Checks 7 and 8, then the rest.
+fn plan_good(s: &[u8], v: View, lent: usize) -> Planning
+    requires { ⌜ ViewOf (now s) v ⌝ }
+    ensures { λ r. ⌜ PlanOf (outcome-by HBCS (workflow-of (now (s .entry)) v) lent) r ⌝ }
+{
+    if lent < v.tasks {
+        return refused(7, v.tasks as u64);
+    }
+    let ranked = ranking::rank_all(s, v);
+    if ranked.all {
+        return plan_ranked(s, v, &ranked.ranks);
+    }
+    refused(8, ranking::lowest_in_cycle(s, v) as u64)
+}
+
+// The plan of a request with so many rows lent: checks 1 to 6, then 7, 8, 9, placing with 10, then 11.
+pub fn plan(request: &[u8], lent: usize) -> Planning
+    ensures { λ r. ⌜ PlanOf (outcome (now (request .entry)) lent) r ⌝ }
+{
+    let reading = reader::read_request(request);
+    match reading {
+        Reading::Good(v) => plan_good(request, v, lent),
+        Reading::Refused(number, place) => refused(number, place as u64),
+    }
+}
+
+// How many rows an answer comes with.
+pub fn rows_of(answer: Answer) -> u64
+    ensures { λ r. ⌜ r ≡ rows-told answer ⌝ }
+{
+    match answer {
+        Answer::Planned {
+            n,
+            length: _,
+            cost: _,
+            left: _,
+        } => n,
+        Answer::Refused {
+            number: _,
+            place: _,
+        } => 0,
+    }
+}
+
+// Stores the first n numbers of a column; the rest of the buffer keeps its content.
+fn store(buffer: &mut [u64], column: &[u64; 64], n: usize)
+    requires { ⌜ (n ≤ 64) × (n ≤ length (now buffer)) ⌝ }
+    ensures { λ r. ⌜ now (buffer .exit) ≡ listing n (at (now (column .entry))) ++ drop n (now (buffer .entry)) ⌝ }
+{
+    let mut i = 0;
+    while i < n {
+        buffer[i] = column[i];
+        i += 1;
+    }
+}
+
+// The shortest of four lengths.
+fn shortest(a: usize, b: usize, c: usize, d: usize) -> usize
+    ensures { λ r. ⌜ r ≡ min (min a b) (min c d) ⌝ }
+{
+    numbers::smaller(
+        numbers::smaller(a as u64, b as u64),
+        numbers::smaller(c as u64, d as u64),
+    ) as usize
+}
+
+// The plan of a request, its rows in four lent buffers: row i in the numbers at i. As many rows are lent as the shortest buffer has numbers. A plan writes
+// rows 0 to n-1 and keeps what stands after them; a refusal changes nothing.
+pub fn plan_into(
+    request: &[u8],
+    processors: &mut [u64],
+    starts: &mut [u64],
+    finishes: &mut [u64],
+    costs: &mut [u64],
+) -> Answer
+    ensures { λ r. ⌜ PlannedInto (now (request .entry)) (now (processors .entry)) (now (starts .entry)) (now (finishes .entry)) (now (costs .entry)) (now (processors .exit)) (now (starts .exit)) (now (finishes .exit)) (now (costs .exit)) r ⌝ }
+{
+    let lent = shortest(processors.len(), starts.len(), finishes.len(), costs.len());
+    let p = plan(request, lent);
+    let answer = p.answer;
+    let n = rows_of(answer) as usize;
+    store(processors, &p.processors, n);
+    store(starts, &p.starts, n);
+    store(finishes, &p.finishes, n);
+    store(costs, &p.costs, n);
+    answer
+}
