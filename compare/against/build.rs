@@ -18,11 +18,17 @@ fn main() {
             "{archive} is not there: run `rt staticlib exports` in the repository's root first"
         ));
     }
+    // The benchmarks link the code itself, where it is built for this processor.
+    println!("cargo:rustc-check-cfg=cfg(linked)");
+    let native_folder = here.join("../../target/native");
+    println!("cargo:rerun-if-changed={}", native_folder.display());
+    if native_folder.join("libexports.a").is_file() {
+        println!("cargo:rustc-link-search=native={}", native_folder.display());
+        println!("cargo:rustc-link-lib=static=exports");
+        println!("cargo:rustc-cfg=linked");
+    }
     let driver = Path::new(&variable("OUT_DIR")).join("driver");
     let command = if variable("CARGO_CFG_TARGET_ARCH") == "x86_64" {
-        // The benchmarks link the archive itself.
-        println!("cargo:rustc-link-search=native={}", folder.display());
-        println!("cargo:rustc-link-lib=static=exports");
         native(&source, &archive, driver)
     } else {
         emulated(&source, &archive, driver)
@@ -36,7 +42,7 @@ fn main() {
 fn native(source: &Path, archive: &Path, driver: PathBuf) -> Vec<PathBuf> {
     println!("cargo:rerun-if-env-changed=CC");
     let compiler = env::var_os("CC").unwrap_or_else(|| "cc".into());
-    run(Command::new(compiler).args(["-O2", "-o"]).args([&driver, source, archive]));
+    run(Command::new(compiler).args(["-O2", "-pthread", "-o"]).args([&driver, source, archive]));
     vec![driver]
 }
 

@@ -1,4 +1,5 @@
-// Answers questions about byte slices by the functions that the proved code exports. It is built for x86-64 Linux, as they are.
+// Answers questions about byte slices by the functions that the proved code exports. It is built for x86-64 Linux, as they are. All of it runs on a thread
+// with 32 KiB of stack.
 //
 // A batch on standard input is the number of its bytes, then for each slice: its length, how many questions there are about it, its bytes, and for each
 // question its kind and its argument. Once the whole batch has come, the answers are written to standard output: the number of their bytes, then the
@@ -19,6 +20,11 @@ _Bool zabgurin_listed(byte b);
 word zabgurin_label_len(const byte *request, word request_len, word at);
 struct reading zabgurin_read(const byte *request, word request_len);
 struct part zabgurin_label(const byte *request, word request_len, word task);
+struct answer {
+    word number, place, tasks, length, cost, left;
+};
+struct answer zabgurin_plan(const byte *request, word request_len, word *processors, word processors_len, word *starts, word starts_len,
+                            word *finishes, word finishes_len, word *costs, word costs_len);
 
 // The C library, declared here since not every compiler that builds this has its headers.
 long read(int file, void *bytes, word length);
@@ -30,12 +36,23 @@ void *memcpy(void *to, const void *from, word length);
 void *memset(void *to, int b, word length);
 int memcmp(const void *a, const void *b, word length);
 _Noreturn void _exit(int status);
+// Of its threads only the attributes' size matters here, and they have 56 bytes.
+union attributes {
+    byte bytes[64];
+    word aligned;
+};
+int pthread_attr_init(union attributes *attributes);
+int pthread_attr_setstack(union attributes *attributes, void *stack, word length);
+int pthread_create(word *thread, const union attributes *attributes, void *(*run)(void *), void *argument);
+int pthread_join(word thread, void **result);
 
-enum { LISTED, LABEL_LEN, READ, LABEL };
+enum { LISTED, LABEL_LEN, READ, LABEL, PLAN, DEEPEST };
 // How the program ends where it does not end well.
-enum { CUT_INPUT = 10, BAD_INPUT, NO_OUTPUT, NO_MEMORY, WRITTEN_TO };
+enum { CUT_INPUT = 10, BAD_INPUT, NO_OUTPUT, NO_MEMORY, WRITTEN_TO, NO_THREAD };
 // The poison before a slice, and what memory is taken in: no smaller than a page.
 enum { POISON = 64, PAGE = 1 << 16 };
+// The stack, and the buffers of a plan.
+enum { STACK = 32 << 10, BUFFERS = 4, MOST_ROWS = 1 << 10 };
 
 // Some bytes that grow as needed.
 struct buffer {
@@ -98,20 +115,73 @@ static void pour(const byte *bytes, word length) {
     }
 }
 
+// The end of so much memory to read and write, behind which is memory that nothing can reach. It is private and of no file.
+static byte *end_of_room(word room) {
+    byte *start = mmap(0, room + PAGE, 1 | 2, 2 | 32, -1, 0), *end = start + room;
+    if (start == (byte *)-1 || mprotect(end, PAGE, 0) != 0)
+        _exit(NO_MEMORY);
+    return end;
+}
+
+static void poison(byte *slice) {
+    memset(slice - POISON, 0xa5, POISON);
+}
+
+static void check_poison(const byte *slice) {
+    for (word k = 1; k <= POISON; k++)
+        if (slice[-(long)k] != 0xa5)
+            _exit(WRITTEN_TO);
+}
+
 // A copy of a slice, with poison before it and behind it memory that nothing can reach.
 static byte *place(const byte *slice, word length) {
     static byte *end;
     static word room;
     if (length + POISON > room) {
         room = (length + POISON + PAGE) / PAGE * PAGE;
-        // Memory to read and write, private and of no file, the last page of it then to do nothing with.
-        byte *start = mmap(0, room + PAGE, 1 | 2, 2 | 32, -1, 0);
-        end = start + room;
-        if (start == (byte *)-1 || mprotect(end, PAGE, 0) != 0)
-            _exit(NO_MEMORY);
+        end = end_of_room(room);
     }
-    memset(end - length - POISON, 0xa5, POISON);
+    poison(end - length);
     return memcpy(end - length, slice, length);
+}
+
+// What the numbers of a buffer are before a plan.
+static word before(word buffer, word k) {
+    return 0xfeed0000 + 0x10000 * buffer + k;
+}
+
+// Asks for a plan with four buffers of so many numbers, the first's in the lowest sixteen bits. The answer's words are followed by those of each buffer.
+static void plan(struct buffer *answers, const byte *slice, word length, word lengths) {
+    static byte *ends[BUFFERS];
+    word *lent[BUFFERS], len[BUFFERS];
+    for (word b = 0; b < BUFFERS; b++) {
+        len[b] = lengths >> 16 * b & 0xffff;
+        if (len[b] > MOST_ROWS)
+            _exit(BAD_INPUT);
+        if (!ends[b])
+            ends[b] = end_of_room(PAGE);
+        lent[b] = (word *)ends[b] - len[b];
+        poison((byte *)lent[b]);
+        for (word k = 0; k < len[b]; k++)
+            lent[b][k] = before(b, k);
+    }
+    struct answer answer = zabgurin_plan(slice, length, lent[0], len[0], lent[1], len[1], lent[2], len[2], lent[3], len[3]);
+    put(answers, &answer, sizeof answer);
+    for (word b = 0; b < BUFFERS; b++) {
+        check_poison((byte *)lent[b]);
+        put(answers, lent[b], len[b] * sizeof(word));
+    }
+}
+
+// The stack that all runs on, written full of one byte at first, with memory below it that nothing can reach.
+static byte *stack;
+
+// How many bytes of the stack were ever used: those of the thread itself and of this program are among them.
+static word deepest(void) {
+    word unused = 0;
+    while (unused < STACK && stack[unused] == 0x5a)
+        unused++;
+    return STACK - unused;
 }
 
 // Answers one question about a slice that stands in its place.
@@ -128,12 +198,17 @@ static void answer(struct buffer *answers, const byte *slice, word length, word 
     } else if (kind == LABEL) {
         struct part part = zabgurin_label(slice, length, argument);
         put(answers, &part, sizeof part);
+    } else if (kind == PLAN) {
+        plan(answers, slice, length, argument);
+    } else if (kind == DEEPEST) {
+        word used = deepest();
+        put(answers, &used, sizeof used);
     } else {
         _exit(BAD_INPUT);
     }
 }
 
-int main(void) {
+static void *serve(void *nothing) {
     struct buffer batch = {0}, answers = {0};
     word length;
     while (fill((byte *)&length, sizeof length)) {
@@ -154,13 +229,25 @@ int main(void) {
             }
             if (memcmp(slice, given, slice_length) != 0)
                 _exit(WRITTEN_TO);
-            for (word k = 1; k <= POISON; k++)
-                if (slice[-(long)k] != 0xa5)
-                    _exit(WRITTEN_TO);
+            check_poison(slice);
         }
         length = answers.length - sizeof(word);
         memcpy(answers.bytes, &length, sizeof length);
         pour(answers.bytes, answers.length);
     }
+    return nothing;
+}
+
+int main(void) {
+    // Memory to read and write, private and of no file, the first page of it then to do nothing with.
+    byte *room = mmap(0, PAGE + STACK, 1 | 2, 2 | 32, -1, 0);
+    if (room == (byte *)-1 || mprotect(room, PAGE, 0) != 0)
+        _exit(NO_MEMORY);
+    stack = memset(room + PAGE, 0x5a, STACK);
+    union attributes attributes;
+    word thread;
+    if (pthread_attr_init(&attributes) != 0 || pthread_attr_setstack(&attributes, stack, STACK) != 0 || pthread_create(&thread, &attributes, serve, 0) != 0 ||
+        pthread_join(thread, 0) != 0)
+        _exit(NO_THREAD);
     return 0;
 }

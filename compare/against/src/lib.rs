@@ -42,6 +42,40 @@ impl Part {
     }
 }
 
+/// How a request is answered: the refusal's number and place, or number 0 and the summary of a plan. Whatever does not
+/// belong to the answer is 0.
+#[repr(C)]
+#[derive(Clone, Copy, Debug, Default, PartialEq, Eq)]
+pub struct Answer {
+    pub number: u64,
+    pub place: u64,
+    pub tasks: u64,
+    pub length: u64,
+    pub cost: u64,
+    pub left: u64,
+}
+
+impl From<compare::Answer> for Answer {
+    fn from(answer: compare::Answer) -> Answer {
+        match answer {
+            compare::Answer::Planned { n, length, cost, left } => {
+                Answer { tasks: n, length, cost, left, ..Answer::default() }
+            }
+            compare::Answer::Refused { number, place } => {
+                Answer { number, place, ..Answer::default() }
+            }
+        }
+    }
+}
+
+/// The four buffers of a plan: processors, starts, finishes and costs. Row i is in the numbers at i.
+pub type Columns = [Vec<u64>; 4];
+
+/// What the driver's buffers of these lengths hold before a plan.
+pub fn columns_before(lengths: [usize; 4]) -> Columns {
+    [0, 1, 2, 3].map(|b| (0..lengths[b]).map(|k| (0xfeed_0000 + 0x1_0000 * b + k) as u64).collect())
+}
+
 /// A running `driver.c`. It is asked in batches, since each batch is one round trip; the answers are in the order of
 /// the questions. Panics where the driver ends before its input does, or not well.
 pub struct Driver(Child);
@@ -54,6 +88,8 @@ const LISTED: u64 = 0;
 const LABEL_LEN: u64 = 1;
 const READ: u64 = 2;
 const LABEL: u64 = 3;
+const PLAN: u64 = 4;
+const DEEPEST: u64 = 5;
 
 impl Driver {
     pub fn start() -> Driver {
@@ -108,6 +144,31 @@ impl Driver {
                 (reading, tasks.iter().map(|_| answers.part().of(request)).collect())
             })
             .collect()
+    }
+
+    /// For requests, each with four buffers of these lengths that hold what [`columns_before`] says: the answer, and
+    /// the buffers after the call.
+    pub fn plan(&mut self, requests: &[(&[u8], [usize; 4])]) -> Vec<(Answer, Columns)> {
+        let argument = |lengths: &[usize; 4]| {
+            lengths.iter().rev().fold(0, |argument, &length| argument << 16 | length as u64)
+        };
+        let batch: Vec<_> = requests
+            .iter()
+            .map(|(request, lengths)| (*request, vec![(PLAN, argument(lengths))]))
+            .collect();
+        let mut answers = self.ask(&batch);
+        requests
+            .iter()
+            .map(|(_, lengths)| {
+                let answer = answers.answer();
+                (answer, lengths.map(|length| (0..length).map(|_| answers.word()).collect()))
+            })
+            .collect()
+    }
+
+    /// The most bytes of stack that were in use at any time, those of the thread itself and of the driver included.
+    pub fn deepest(&mut self) -> usize {
+        self.ask(&[(&[], vec![(DEEPEST, 0)])]).size()
     }
 
     fn ask(&mut self, batch: &[Asked]) -> Answers {
@@ -180,6 +241,17 @@ impl Answers {
         Part { begin: self.size(), length: self.size() }
     }
 
+    fn answer(&mut self) -> Answer {
+        Answer {
+            number: self.word(),
+            place: self.word(),
+            tasks: self.word(),
+            length: self.word(),
+            cost: self.word(),
+            left: self.word(),
+        }
+    }
+
     fn reading(&mut self) -> Reading {
         Reading {
             number: self.word(),
@@ -196,15 +268,31 @@ impl Answers {
     }
 }
 
-/// The exported functions linked into this program, to time them: for x86-64 alone, as they are.
-#[cfg(target_arch = "x86_64")]
+/// The exported functions linked into this program, to time them, once `native-archive` has built them for this
+/// processor.
+#[cfg(linked)]
 pub mod linked {
-    use super::{Part, Reading};
+    use super::{Answer, Part, Reading};
 
+    // A struct of more than two words comes back through a pointer that goes first, as in the C of x86-64. Said outright, it
+    // holds on another processor too, where the archive is made from the same module.
     extern "C" {
         fn zabgurin_label_len(request: *const u8, request_len: usize, at: usize) -> usize;
-        fn zabgurin_read(request: *const u8, request_len: usize) -> Reading;
+        fn zabgurin_read(reading: *mut Reading, request: *const u8, request_len: usize);
         fn zabgurin_label(request: *const u8, request_len: usize, task: usize) -> Part;
+        fn zabgurin_plan(
+            answer: *mut Answer,
+            request: *const u8,
+            request_len: usize,
+            processors: *mut u64,
+            processors_len: usize,
+            starts: *mut u64,
+            starts_len: usize,
+            finishes: *mut u64,
+            finishes_len: usize,
+            costs: *mut u64,
+            costs_len: usize,
+        );
     }
 
     pub fn label_len(request: &[u8], at: usize) -> usize {
@@ -213,19 +301,44 @@ pub mod linked {
     }
 
     pub fn read(request: &[u8]) -> Reading {
+        let mut reading = Reading::default();
         // SAFETY: the pointer and the length are one slice's, which is only read, and only during the call.
-        unsafe { zabgurin_read(request.as_ptr(), request.len()) }
+        unsafe { zabgurin_read(&mut reading, request.as_ptr(), request.len()) };
+        reading
     }
 
     pub fn label(request: &[u8], task: usize) -> &[u8] {
         // SAFETY: the pointer and the length are one slice's, which is only read, and only during the call.
         unsafe { zabgurin_label(request.as_ptr(), request.len(), task) }.of(request)
     }
+
+    pub fn plan(request: &[u8], columns: &mut [[u64; 64]; 4]) -> Answer {
+        let [processors, starts, finishes, costs] = columns;
+        let mut answer = Answer::default();
+        // SAFETY: each pointer and length are one slice's; the first is only read, the other four are lent to this call
+        // alone.
+        unsafe {
+            zabgurin_plan(
+                &mut answer,
+                request.as_ptr(),
+                request.len(),
+                processors.as_mut_ptr(),
+                processors.len(),
+                starts.as_mut_ptr(),
+                starts.len(),
+                finishes.as_mut_ptr(),
+                finishes.len(),
+                costs.as_mut_ptr(),
+                costs.len(),
+            )
+        };
+        answer
+    }
 }
 
-/// What a benchmark says on another processor.
+/// What a benchmark says without the archive for this processor.
 pub const NOT_HERE: &str =
-    "the proved code is for x86-64, and this processor cannot run it at its own speed";
+    "run compare/against/native-archive first: it builds the proved code for this processor";
 
 /// The same checks as range tests, the way plain Rust writes them.
 pub mod plain {

@@ -1,10 +1,15 @@
 -- What the exported structs tell: the rules' reading in numbers.
 use Prim.Native.Nat.{ℕ}
+use mathlib.Core.Path.{_≡_}
+use mathlib.Core.List.{List}
 use Rattle.rules.specs.Records.{Read, read, stopped}
 use Rattle.rules.specs.Reading.{Deadline, no-deadline, by, Request}
 use Rattle.rules.specs.Labels as rules
+use Rattle.rules.specs.Answer.{Answer, planned, refused, answer-of}
+use Rattle.planner.specs.Planned.{outcome-into, BuffersAfter}
 use Rattle.exports.specs.declared.ZabgurinReading.{ZabgurinReading}
 use Rattle.exports.specs.declared.ZabgurinPart.{ZabgurinPart}
+use Rattle.exports.specs.declared.ZabgurinAnswer.{ZabgurinAnswer}
 
 -- No deadline is told as 0, which no deadline is.
 abbrev pub told-deadline : Deadline → ℕ
@@ -42,3 +47,13 @@ told (stopped number place) =
 
 abbrev pub told-part : rules.Part → ZabgurinPart
 told-part p = record { begin = p .begin; length = p .length }
+
+-- A plan is told with number 0, which no refusal has, and a refusal with 0 for all but number and place.
+abbrev pub told-answer : Answer → ZabgurinAnswer
+told-answer (planned n length cost left) = record { number = 0; place = 0; tasks = n; length = length; cost = cost; left = left }
+told-answer (refused number place) = record { number = number; place = place; tasks = 0; length = 0; cost = 0; left = 0 }
+
+-- The answer and the four buffers after the call are the rules'.
+pub record PlanTold (s processors starts finishes costs processors′ starts′ finishes′ costs′ : List ℕ) (r : ZabgurinAnswer) : Type 0 where
+  pub answer-is : r ≡ told-answer (answer-of (outcome-into s processors starts finishes costs))
+  pub after : BuffersAfter s processors starts finishes costs processors′ starts′ finishes′ costs′

@@ -4,7 +4,9 @@ ghost use Rattle.label.specs.Label.{ListedTold, LabelLength};
 ghost use Rattle.rules.specs.Reading.{read-request};
 ghost use Rattle.rules.specs.Labels.{label-lookup};
 ghost use Rattle.reader.specs.Meaning.{meant-deadline};
-ghost use Rattle.exports.specs.Told.{told-deadline, told, told-part};
+ghost use Rattle.planner.specs.Planned.{meant-answer};
+ghost use Rattle.exports.specs.Told.{told-deadline, told, told-part, told-answer, PlanTold};
+use planner::Answer;
 use reader::Deadline;
 use reader::Reading;
 
@@ -105,4 +107,61 @@ pub extern "C" fn zabgurin_label(request: &[u8], task: usize) -> ZabgurinPart
         begin: part.begin,
         length: part.length,
     }
+}
+
+// How a request is answered. `number` is that of the refusal, 1 to 11, with its place; or 0 for a plan, with its number of tasks, its length, its cost and
+// the budget left.
+#[repr(C)]
+pub struct ZabgurinAnswer {
+    pub number: u64,
+    pub place: u64,
+    pub tasks: u64,
+    pub length: u64,
+    pub cost: u64,
+    pub left: u64,
+}
+
+// The numbers of an answer.
+fn answer_told(answer: Answer) -> ZabgurinAnswer
+    ensures { λ r. ⌜ r ≡ told-answer (meant-answer answer) ⌝ }
+{
+    match answer {
+        Answer::Planned {
+            n,
+            length,
+            cost,
+            left,
+        } => ZabgurinAnswer {
+            number: 0,
+            place: 0,
+            tasks: n,
+            length,
+            cost,
+            left,
+        },
+        Answer::Refused { number, place } => ZabgurinAnswer {
+            number,
+            place,
+            tasks: 0,
+            length: 0,
+            cost: 0,
+            left: 0,
+        },
+    }
+}
+
+// Plans a request, its rows in four buffers: row i in the numbers at i. As many rows are lent as the shortest buffer has numbers. A plan writes rows 0 to
+// n-1 and keeps what stands after them; a refusal changes nothing.
+#[no_mangle]
+pub extern "C" fn zabgurin_plan(
+    request: &[u8],
+    processors: &mut [u64],
+    starts: &mut [u64],
+    finishes: &mut [u64],
+    costs: &mut [u64],
+) -> ZabgurinAnswer
+    ensures { λ r. ⌜ PlanTold (now (request .entry)) (now (processors .entry)) (now (starts .entry)) (now (finishes .entry)) (now (costs .entry)) (now (processors .exit)) (now (starts .exit)) (now (finishes .exit)) (now (costs .exit)) r ⌝ }
+{
+    let answer = planner::plan_into(request, processors, starts, finishes, costs);
+    answer_told(answer)
 }

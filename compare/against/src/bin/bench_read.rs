@@ -1,6 +1,6 @@
 //! Times the exported reader and label lookup against the independent program's, side by side: nanoseconds for one
 //! request, the best of many rounds.
-#![cfg_attr(not(target_arch = "x86_64"), allow(dead_code, unused_imports))]
+#![cfg_attr(not(linked), allow(dead_code, unused_imports))]
 use compare::build::{sample, Draft};
 use compare::random::{sized, Random};
 use std::hint::black_box;
@@ -54,12 +54,12 @@ fn labels() -> Draft {
     draft
 }
 
-#[cfg(not(target_arch = "x86_64"))]
+#[cfg(not(linked))]
 fn main() {
     println!("{}", against::NOT_HERE);
 }
 
-#[cfg(target_arch = "x86_64")]
+#[cfg(linked)]
 fn main() {
     use against::linked;
     let (full, labels, small) = (full().bytes(), labels().bytes(), sample(28).bytes());

@@ -1,0 +1,95 @@
+//! Times the exported planner against the independent program's, side by side: nanoseconds for one plan, the best of
+//! many rounds, from 8 tasks to 64. `bench_plan proved 64 1000` makes so many plans by one of the two (`proved` or
+//! `plain`) and prints nothing, for a tool that counts instructions.
+#![cfg_attr(not(linked), allow(dead_code, unused_imports))]
+use compare::build::Draft;
+use compare::random::{cheapest_total, Random};
+use compare::Row;
+use std::hint::black_box;
+use std::time::Instant;
+
+const ROUNDS: usize = 2_000;
+const PASSES: usize = 10;
+
+/// So many tasks, numbered in any order, on 16 processors, with eight edges to a task or as many as there can be.
+fn request(n: usize) -> Vec<u8> {
+    let mut random = Random(0x5eed_9a17_be9c_0001);
+    let mut draft = Draft::new(0, &[], &[], &[]);
+    draft.prices = (0..16).map(|_| random.within(1, 100) as u8).collect();
+    for i in 0..n {
+        let minutes = (0..16).map(|_| random.within(1, 2_000) as u16).collect();
+        draft.tasks.push((format!("task{i}"), minutes));
+    }
+    let mut order: Vec<u8> = (0..n as u8).collect();
+    for i in (1..n).rev() {
+        order.swap(i, random.within(0, i as u64) as usize);
+    }
+    let pairs = n * (n - 1) / 2;
+    let mut left = pairs as u64;
+    let mut wanted = pairs.min(8 * n) as u64;
+    for to in 1..n {
+        for from in 0..to {
+            if random.within(1, left) <= wanted {
+                let transfer = random.within(0, 1_000) as u16;
+                draft.edges.push((order[from], order[to], transfer));
+                wanted -= 1;
+            }
+            left -= 1;
+        }
+    }
+    draft.edges.sort();
+    draft.budget = (cheapest_total(&draft) * 5 / 4) as u32;
+    draft.bytes()
+}
+
+#[cfg(not(linked))]
+fn main() {
+    println!("{}", against::NOT_HERE);
+}
+
+#[cfg(linked)]
+fn main() {
+    use against::linked;
+    let plain = |request: &[u8]| {
+        let mut rows = [Row::default(); 64];
+        compare::plan(request, &mut rows);
+        rows[0].finish
+    };
+    let proved = |request: &[u8]| {
+        let mut columns = [[0; 64]; 4];
+        linked::plan(request, &mut columns);
+        columns[2][0]
+    };
+    let words: Vec<String> = std::env::args().skip(1).collect();
+    if let [by, n, plans] = &words[..] {
+        let request = request(n.parse().expect("a number of tasks"));
+        for _ in 0..plans.parse::<usize>().expect("a number of plans") {
+            black_box(if by == "proved" { proved(&request) } else { plain(&request) });
+        }
+        return;
+    }
+    for n in [8, 16, 32, 64] {
+        let request = request(n);
+        let mut columns = [[0; 64]; 4];
+        let theirs = compare::plan(&request, &mut [Row::default(); 64]);
+        assert!(matches!(theirs, compare::Answer::Planned { .. }), "{theirs:?}");
+        assert_eq!(linked::plan(&request, &mut columns), theirs.into());
+        let round = |plan: &dyn Fn(&[u8]) -> u64| {
+            let start = Instant::now();
+            for _ in 0..PASSES {
+                black_box(plan(black_box(&request)));
+            }
+            start.elapsed().as_nanos() as f64 / PASSES as f64
+        };
+        let (mut ours, mut theirs) = (f64::MAX, f64::MAX);
+        for _ in 0..ROUNDS {
+            ours = ours.min(round(&proved));
+            theirs = theirs.min(round(&plain));
+        }
+        let edges = (n * (n - 1) / 2).min(8 * n);
+        let ratio = ours / theirs;
+        println!(
+            "{n} tasks, {edges} edges: proved {ours:.0} ns, plain {theirs:.0} ns, ratio {ratio:.2}"
+        );
+    }
+}

@@ -1,0 +1,150 @@
+//! The exported planner against the independent program: answers and all four buffers, for requests of every shape and
+//! for damaged ones, with any number of rows lent.
+use against::{columns_before, Columns, Driver};
+use compare::build::sample;
+use compare::random::{Damage, Random};
+use compare::shapes::{shaped, BUDGETS, DEADLINES, GRAPHS, NUMBERS};
+use compare::Row;
+
+/// Document 01's numbers, and 0 for a plan.
+const NUMBERS_THERE_ARE: usize = 12;
+
+/// Holds the proved planner against the independent program on each request, with buffers of these lengths. Gives how
+/// often each refusal was met, and plans as 0.
+fn agree(requests: impl IntoIterator<Item = (Vec<u8>, [usize; 4])>) -> [usize; NUMBERS_THERE_ARE] {
+    let (mut driver, mut met) = (Driver::start(), [0; NUMBERS_THERE_ARE]);
+    let mut requests = requests.into_iter().peekable();
+    while requests.peek().is_some() {
+        let batch: Vec<_> = requests.by_ref().take(64).collect();
+        let questions: Vec<_> = batch.iter().map(|(request, lent)| (&request[..], *lent)).collect();
+        for ((request, lent), (answer, columns)) in questions.iter().zip(driver.plan(&questions)) {
+            let (theirs, their_columns) = plan(request, *lent);
+            assert_eq!(answer, theirs, "lent {lent:?}, request {request:?}");
+            assert_eq!(columns, their_columns, "lent {lent:?}, request {request:?}");
+            met[answer.number as usize] += 1;
+        }
+    }
+    met
+}
+
+/// The independent program's answer, with its rows field by field in buffers of these lengths. As many rows are lent as
+/// the shortest buffer has numbers.
+fn plan(request: &[u8], lent: [usize; 4]) -> (against::Answer, Columns) {
+    let mut columns = columns_before(lent);
+    let mut rows: Vec<Row> = (0..*lent.iter().min().unwrap())
+        .map(|k| Row {
+            processor: columns[0][k],
+            start: columns[1][k],
+            finish: columns[2][k],
+            cost: columns[3][k],
+        })
+        .collect();
+    let answer = compare::plan(request, &mut rows);
+    for (k, row) in rows.iter().enumerate() {
+        let fields = [row.processor, row.start, row.finish, row.cost];
+        columns.iter_mut().zip(fields).for_each(|(column, field)| column[k] = field);
+    }
+    (answer.into(), columns)
+}
+
+/// Rows for a request of n tasks: mostly enough, from 0 to 70, and one time in four not as many in each buffer.
+fn lent(random: &mut Random, n: usize) -> [usize; 4] {
+    let rows = if random.one_in(4) { random.within(0, 70) } else { random.within(n as u64, 70) };
+    let mut lent = [rows as usize; 4];
+    if random.one_in(4) {
+        lent[random.within(0, 3) as usize] = random.within(0, 70) as usize;
+    }
+    lent
+}
+
+/// Good requests of every shape, one after the other; sizes up to the limits, half of them small.
+fn good(seed: u64, count: usize) -> impl Iterator<Item = (Vec<u8>, usize)> {
+    let mut random = Random(seed);
+    (0..count).map(move |k| {
+        let shape = (
+            GRAPHS[k % GRAPHS.len()],
+            NUMBERS[k / 7 % NUMBERS.len()],
+            BUDGETS[k / 42 % BUDGETS.len()],
+            DEADLINES[k / 168 % DEADLINES.len()],
+        );
+        let (most, widest) = if random.one_in(2) { (8, 4) } else { (64, 16) };
+        let n = random.often_an_end(1, most) as usize;
+        let m = random.often_an_end(1, widest) as usize;
+        (shaped(&mut random, (n, m), shape).bytes(), n)
+    })
+}
+
+#[test]
+fn the_sample() {
+    let requests = (20..32).flat_map(|budget| (0..6).map(move |rows| (budget, rows)));
+    agree(requests.map(|(budget, rows)| (sample(budget).bytes(), [rows; 4])));
+}
+
+#[test]
+fn good_requests_of_every_shape() {
+    let mut random = Random(0x600d_5eed_0000_0001);
+    let met = agree(good(0x600d_5eed_0000_0002, 24_192).map(|(request, n)| {
+        let lent = lent(&mut random, n);
+        (request, lent)
+    }));
+    println!("{met:?}");
+    // Each of these answers comes often; refusals 1 to 6 and 10 never.
+    for (number, met) in met.iter().enumerate() {
+        match number {
+            0 | 7 | 8 | 9 | 11 => assert!(*met >= 1_000, "{number} was met {met} times"),
+            _ => assert_eq!(*met, 0, "{number}"),
+        }
+    }
+}
+
+#[test]
+fn damaged_requests() {
+    let mut random = Random(0xda4a_6ed0_0000_0001);
+    let met =
+        agree(good(0xda4a_6ed0_0000_0002, 24_192).enumerate().map(|(k, (mut request, n))| {
+            Damage::ALL[k % Damage::ALL.len()].to(&mut random, &mut request);
+            let lent = lent(&mut random, n);
+            (request, lent)
+        }));
+    println!("{met:?}");
+    for (number, met) in met.iter().enumerate() {
+        match number {
+            10 => assert_eq!(*met, 0),
+            _ => assert!(*met >= 30, "{number} was met {met} times"),
+        }
+    }
+}
+
+#[test]
+fn every_number_of_rows() {
+    let mut random = Random(0x40e5_5eed_0000_0001);
+    let requests: Vec<_> = good(0x40e5_5eed_0000_0002, 168).collect();
+    let met = agree(requests.into_iter().flat_map(|(request, n)| {
+        let longest = random.within(0, 70) as usize;
+        (0..71).map(move |rows| {
+            let mut lent = [rows; 4];
+            lent[n % 4] = rows.max(longest);
+            (request.clone(), lent)
+        })
+    }));
+    assert!(met[0] > 0 && met[7] > 0);
+}
+
+/// The driver runs on a thread with 32 KiB of stack, and the largest requests leave some of it.
+#[test]
+fn a_small_stack_will_do() {
+    let mut driver = Driver::start();
+    let mut random = Random(0x57ac_5eed_0000_0001);
+    let mut largest: Vec<Vec<u8>> = Vec::new();
+    for graph in GRAPHS {
+        for budget in BUDGETS {
+            let shape = (graph, NUMBERS[0], budget, DEADLINES[0]);
+            largest.push(shaped(&mut random, (64, 16), shape).bytes());
+        }
+    }
+    let idle = driver.deepest();
+    driver.plan(&largest.iter().map(|request| (&request[..], [64; 4])).collect::<Vec<_>>());
+    let deepest = driver.deepest();
+    println!("{deepest} bytes of stack, {idle} of them before the first plan");
+    assert!(deepest < 32 << 10, "{deepest} bytes of stack");
+}
