@@ -5,7 +5,7 @@ use mathlib.Core.List.{List}
 use native.Mathlib.Omega.{arith}
 use lib.ListN.{length}
 use Rattle.rules.specs.Fields.{kind-byte, size, byte}
-use Rattle.rules.specs.Records.{Record, opening, record-at}
+use Rattle.rules.specs.Records.{Record, opening-by, opening, record-at}
 use Rattle.demands.specs.Wanted.{Wanted, kind-of, Whole, Passes}
 use Rattle.demands.specs.Reads.{DueHere, only, IsDue, that-one, Fault, no-kind-byte, cut-short, kind-not-due}
 use Rattle.demands.specs.Tells.{leb-tells, ltb-tells, eqb-tells}
@@ -44,7 +44,7 @@ module _ (s : List ℕ) {due : DueHere} (at : ℕ) (w : Wanted) (a : DueAt s due
   pub opened-goes :
       (checks : List ℕ) (r : Record) → (Whole s at w → Own checks r)
       → Goes (Past s at w) (Faulty s due at) (record-at s at (kind-of w) checks r)
-  unfolding record-at opening
+  unfolding record-at opening opening-by
   opened-goes checks r own =
       goes-check (ltb-tells at (length s)) 0
       (λ there.

@@ -4,9 +4,10 @@ use mathlib.Core.Path.{_≡_, refl, sym, _∙_}
 use mathlib.Core.Bool.{Bool, cond}
 use mathlib.Core.List.{List}
 use native.Mathlib.Omega.{arith}
-use Rattle.rules.specs.Fields.{D, Z, kind-byte, byte, H-tasks, H-processors, D-deadline, E-from, E-to}
+use Rattle.rules.specs.Fields.{D, Z, kind-byte, byte, H-tasks, H-processors, D-deadline}
 use Rattle.rules.specs.Records.{Read, read, Edges, deadline-at, edge-at, end-at}
 use Rattle.rules.specs.Reading.{then, no-deadline, by, deadline-part, prices-part, task-part, tasks-part, edges-part}
+use Rattle.good.specs.Edges.{up-to}
 use Rattle.demands.specs.Wanted.{Wanted, price, task, minutes, edge, kind-of}
 use Rattle.demands.specs.Reads.{none-before, DueHere, only, deadline-or-price, edge-or-end, nothing, IsDue, a-deadline, or-the-first-price}
 use Rattle.demands.specs.Reads.{an-edge, or-the-end, after-deadline, next-price, first-task, first-minutes, next-minutes, next-task, first-edge}
@@ -124,17 +125,15 @@ module _ (s : List ℕ) where
   unfolding edges-part
   edges-part-goes zero at before few enough comes = absurd (omega arith)
   edges-part-goes (suc k) at before few enough comes =
-      go (λ next room. edges-part-goes k next one-more (omega arith) (omega arith)) (eqb-tells (byte s at) (kind-byte Z))
+      go (λ next room. edges-part-goes k next (up-to s at (before .count)) (omega arith) (omega arith)) (eqb-tells (byte s at) (kind-byte Z))
     where
-      one-more : Edges
-      one-more = record { count = before .count + 1; from = E-from s at; to = E-to s at }
-
       further : ℕ → Read ℕ
-      further place = edges-part s (H-tasks s 0) place one-more k
+      further place = edges-part s (H-tasks s 0) place (up-to s at (before .count)) k
 
       go :
           {t : Bool}
-          → ((next : ℕ) → before .count < 512 → Comes s (edge-or-end one-more) next → Goes (λ next _. Comes s nothing next) (Stops s) (further next))
+          → ((next : ℕ) → before .count < 512 → Comes s (edge-or-end (up-to s at (before .count))) next →
+          Goes (λ next _. Comes s nothing next) (Stops s) (further next))
           → Tells (byte s at ≡ kind-byte Z) t
           → Goes (λ next _. Comes s nothing next) (Stops s)
           (cond t (then (end-at s at) (λ next _. read next (before .count))) (then (edge-at s at (H-tasks s 0) before) (λ next _. further next)))

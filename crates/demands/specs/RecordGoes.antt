@@ -9,7 +9,7 @@ use Rattle.label.specs.Length.{label-length}
 use Rattle.label.specs.Laws.{label-length-is-length, told-by-length}
 use Rattle.rules.specs.Fields.{size, H-tasks, H-processors, H-budget, D-deadline, P-processor, P-price, T-task, T-label, W-task, W-processor}
 use Rattle.rules.specs.Fields.{W-minutes, E-from, E-to, E-transfer}
-use Rattle.rules.specs.Records.{Record, header-at, deadline-at, price-at, task-at, minutes-at, Edges, rising, edge-at, end-at}
+use Rattle.rules.specs.Records.{Record, header-at, deadline-at, price-at, task-at, minutes-at, Edges, rising, edge-ranges, edge-at, end-at}
 use Rattle.good.specs.Good.{GoodEdge}
 use Rattle.demands.specs.Wanted.{Wanted, header, deadline, price, task, minutes, edge, end, kind-of, NumbersDue, FieldsInRange, Passes}
 use Rattle.demands.specs.Reads.{DueHere, not-the-one-due, out-of-range, no-room, bad-label}
@@ -97,7 +97,7 @@ module _ (s : List ℕ) (at : ℕ) where
   pub edge-goes :
       {due : DueHere} (before : Edges) → DueAt s due at (edge before)
       → Goes (Past s at (edge before)) (Faulty s due at) (edge-at s at (H-tasks s 0) before)
-  unfolding edge-at
+  unfolding edge-at edge-ranges
   edge-goes {due} before a =
       opened-goes s at (edge before) a _ _ (λ whole.
       goes-check (ltb-tells (before .count) 512) 3

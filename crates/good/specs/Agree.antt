@@ -12,7 +12,7 @@ use Rattle.label.specs.Length.{label-length}
 use Rattle.label.specs.Laws.{label-length-is-length, length-is-label-length}
 use Rattle.rules.specs.Fields.{Kind, H, D, P, T, W, E, Z, body, size, byte, two-bytes, four-bytes, H-tasks, H-processors, H-budget, D-deadline}
 use Rattle.rules.specs.Fields.{P-processor, P-price, T-task, T-label, W-task, W-processor, W-minutes, E-from, E-to, E-transfer}
-use Rattle.rules.specs.Records.{Record, end, opening, record-at, header-at, deadline-at, price-at, task-at, minutes-at, Edges, edge-at, end-at}
+use Rattle.rules.specs.Records.{Record, end, opening-by, opening, record-at, header-at, deadline-at, price-at, task-at, minutes-at, Edges, edge-at, end-at}
 
 pub record Agree (N : ℕ) (s t : List ℕ) : Type 0 where
   pub same-byte : (at : ℕ) → at < N → byte s at ≡ byte t at
@@ -52,7 +52,7 @@ module _ {N : ℕ} {s t : List ℕ} (a : Agree N s t) where
 
   record-agrees : (at : ℕ) (k : Kind) (checks : List ℕ) (r : Record) →
       at + size k ≤ N → record-at s at k checks r ≡ record-at t at k checks r
-  unfolding record-at opening size
+  unfolding record-at opening opening-by size
   record-agrees at k checks r h =
       rw (a .same-reach (suc at) (omega arith), a .same-byte at (omega arith), a .same-reach (at + (1 + body k)) h)
 

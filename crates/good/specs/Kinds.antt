@@ -9,7 +9,7 @@ use Rattle.label.specs.Label.{Label}
 use Rattle.label.specs.Length.{label-length}
 use Rattle.label.specs.Laws.{label-of-label-length}
 use Rattle.rules.specs.Fields.{H, D, P, T, W, E, Z, size, H-tasks, H-processors, H-budget, D-deadline, P-price, T-label, W-minutes, E-from, E-to}
-use Rattle.rules.specs.Records.{Record, read, within, header-at, deadline-at, price-at, task-at, minutes-at, Edges, rising, edge-at, end-at}
+use Rattle.rules.specs.Records.{Record, read, within, header-at, deadline-at, price-at, task-at, minutes-at, Edges, rising, edge-ranges, edge-at, end-at}
 use Rattle.good.specs.Good.{Between, GoodEdge}
 use Rattle.good.specs.Records.{passed, record-read}
 
@@ -79,7 +79,7 @@ pub record EdgeRead (s : List ℕ) (at n : ℕ) (before : Edges) (next : ℕ) : 
 
 pub edge-read : (s : List ℕ) (at n : ℕ) (before : Edges) {next : ℕ} {was : Record} →
     edge-at s at n before ≡ read next was → EdgeRead s at n before next
-unfolding edge-at
+unfolding edge-at edge-ranges
 edge-read s at n before e =
     let found = record-read s at E _ _ e in
     let (room, more) = passed _ 3 _ (found .no-fault) in

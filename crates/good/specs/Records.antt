@@ -7,7 +7,7 @@ use mathlib.Core.List.{List, [], _∷_, _++_}
 use lib.ListN.{length}
 use borrow.Author.Tests.{leb-true, eqb-true}
 use Rattle.rules.specs.Fields.{Kind, kind-byte, size, byte}
-use Rattle.rules.specs.Records.{Record, read, stopped, unless, first-fault, opening, answered, record-at}
+use Rattle.rules.specs.Records.{Record, read, stopped, unless, first-fault, opening-by, opening, answered, record-at}
 
 -- What was read is no refusal.
 pub stopped-not-read : {A : Type 0} {number place next : ℕ} {a : A} → stopped number place ≡ read next a → ⊥
@@ -64,7 +64,7 @@ pub record RecordRead (s : List ℕ) (at : ℕ) (k : Kind) (checks : List ℕ) (
 
 pub record-read : (s : List ℕ) (at : ℕ) (k : Kind) (checks : List ℕ) (r : Record) {next : ℕ} {was : Record} →
     record-at s at k checks r ≡ read next was → RecordRead s at k checks r next was
-unfolding record-at opening
+unfolding record-at opening opening-by
 record-read s at k checks r e =
     let (none, ends, same) = answered-read _ at (at + size k) r e in
     let (opens, no-fault) = no-faults _ _ (rw (fault-append (opening s at k) checks) at none) in

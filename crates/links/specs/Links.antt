@@ -2,12 +2,10 @@
 use Prim.Native.Nat.{ℕ, _+_, _≤_, _<_}
 use mathlib.Core.Path.{_≡_}
 use mathlib.Core.List.{List}
-use lib.ListN.{length, getD}
+use lib.ListN.{length}
+use Rattle.laws.specs.Stores.{at}
 use Rattle.rules.specs.Workflow.{Workflow}
 use Rattle.links.specs.declared.Links.{Links}
-
-abbrev pub at : List ℕ → ℕ → ℕ
-at xs k = getD xs k 0
 
 -- r is 1 more than the last edge below k into task i; 0 where there is none.
 pub record LastInto (W : Workflow) (i k r : ℕ) : Type 0 where

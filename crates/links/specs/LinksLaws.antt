@@ -8,11 +8,11 @@ use native.Mathlib.Decide.{ℕ-discrete}
 use native.Mathlib.Nat.{eq-or-lt-of-le}
 use native.Mathlib.Omega.{arith}
 use lib.Dec.{eqb}
-use lib.ListN.{length, set, replicate, length-set}
+use lib.ListN.{set, replicate, length-set}
 use borrow.Author.Tests.{eq-eqb, ne-eqb}
 use Rattle.rules.specs.Workflow.{Workflow}
-use Rattle.laws.specs.Stores.{stored, repeated}
-use Rattle.links.specs.Links.{at, LastInto, Linked}
+use Rattle.laws.specs.Stores.{stored, repeated, at}
+use Rattle.links.specs.Links.{LastInto, Linked}
 
 module _ (W : Workflow) where
   -- Of no edges none is the last.

@@ -5,7 +5,8 @@ use native.Mathlib.Decide.{decLe}
 use native.Mathlib.Omega.{arith}
 use lib.Seq.{ext-getD}
 use Rattle.rules.specs.Workflow.{Workflow}
-use Rattle.links.specs.Links.{at, LastInto, LinksOf}
+use Rattle.laws.specs.Stores.{at}
+use Rattle.links.specs.Links.{LastInto, LinksOf}
 use Rattle.links.specs.declared.Links.{Links}
 
 module _ (W : Workflow) where

@@ -1,77 +1,97 @@
--- The whole request, step by step: what each step's answer makes of the request's, once the steps before it were read.
-use mathlib.Core.Path.{_≡_, refl, sym}
+-- The whole request, step by step: past a part that was read, what is left to read is the request's answer; a part's refusal is the request's.
+use mathlib.Core.Path.{_≡_, sym, _∙_, ap}
 use Prim.Native.Nat.{ℕ, _<_, _≤_}
-use native.Mathlib.Omega.{arith}
 use mathlib.Core.List.{List}
 use lib.ListN.{length}
 use borrow.Author.Tests.{lt-ltb, le-ltb}
 use Rattle.rules.specs.Fields.{H-tasks, H-processors, H-budget}
-use Rattle.rules.specs.Records.{read, stopped, header, header-at}
+use Rattle.rules.specs.Records.{Read, read, stopped, header, header-at}
 use Rattle.rules.specs.Reading.{then, Deadline, deadline-part, prices-part, tasks-part, edges-part}
 use Rattle.rules.specs.Reading.{Request, nothing-after, read-request}
 use Rattle.good.specs.ReadIsGood.{read-to-the-end}
+use Rattle.records.specs.declared.Cursor.{Cursor}
+use Rattle.records.specs.declared.Record as code
+use Rattle.records.specs.declared.Record.the-variants.{Header}
+use Rattle.records.specs.declared.RecordAnswer.{RecordAnswer}
+use Rattle.records.specs.declared.RecordAnswer.the-variants as answer
+use Rattle.records.specs.Meaning.{meant}
+use Rattle.reader.specs.declared.Passed.{Passed}
+use Rattle.reader.specs.declared.Passed.the-variants as passed
+use Rattle.reader.specs.declared.Reading.{Reading}
+use Rattle.reader.specs.Meaning.{meant-part, meant-reading, past, refusal-of}
 use Rattle.reader.proofs.Found.{header-found}
 
-module _ (s : List ℕ) where
-  pub header-refused : {number place : ℕ} → stopped number place ≡ header-at s 0 → stopped number place ≡ read-request s
+-- An input with the numbers of its header.
+pub record Headed : Type 0 where
+  pub input : List ℕ
+  pub tasks : ℕ
+  pub processors : ℕ
+  pub budget : ℕ
+
+-- What is left to read past the edges, and from each part on, with what the parts before it gave.
+module _ (h : Headed) where
+  abbrev pub past-edges : Deadline → (prices-at tasks-at edges-at end edges : ℕ) → Read Request
+  past-edges d prices-at tasks-at edges-at end edges =
+      nothing-after (h .input) end
+      (record {
+        tasks = h .tasks;
+        processors = h .processors;
+        budget = h .budget;
+        deadline = d;
+        prices-at = prices-at;
+        tasks-at = tasks-at;
+        edges-at = edges-at;
+        edges = edges;
+      })
+
+  abbrev pub from-edges : Deadline → (prices-at tasks-at edges-at : ℕ) → Read Request
+  from-edges d prices-at tasks-at edges-at =
+      then (edges-part (h .input) (h .tasks) edges-at (record { count = 0; from = 0; to = 0 }) 513) (past-edges d prices-at tasks-at edges-at)
+
+  abbrev pub from-tasks : Deadline → (prices-at tasks-at : ℕ) → Read Request
+  from-tasks d prices-at tasks-at =
+      then (tasks-part (h .input) (h .tasks) (h .processors) tasks-at) (λ edges-at _. from-edges d prices-at tasks-at edges-at)
+
+  abbrev pub from-prices : Deadline → (prices-at : ℕ) → Read Request
+  from-prices d prices-at = then (prices-part (h .input) (h .processors) prices-at) (λ tasks-at _. from-tasks d prices-at tasks-at)
+
+  abbrev pub from-deadline : (at : ℕ) → Read Request
+  from-deadline at = then (deadline-part (h .input) at) (λ prices-at d. from-prices d prices-at)
+
+module _ (s : List ℕ) (a : RecordAnswer) (headed : meant a ≡ header-at s 0) where
+  pub header-refused : {r : Reading} {number place : ℕ} → a ≡ answer.Refused number place → r ≡ refusal-of (past a) →
+      meant-reading s r ≡ read-request s
   unfolding read-request then
-  header-refused e = rw (← e)
+  header-refused is same = rw (same, ← headed, is)
 
-  module _ {after n m b : ℕ} (headed : read after (header n m b) ≡ header-at s 0) where
-    same-n : H-tasks s 0 ≡ n
-    same-n = let is = header-found s 0 headed in cc
+  pub header-read : {next : Cursor} {found : code.Record} {n m b : ℕ} → a ≡ answer.Read next found → found ≡ Header n m b →
+      read-request s ≡ from-deadline (record { input = s; tasks = n; processors = m; budget = b }) (next .at)
+  unfolding read-request then
+  header-read {next} {found} {n} {m} {b} is of =
+      let here : read (next .at) (header n m b) ≡ header-at s 0 = sym (ap meant (is ∙ ap (answer.Read next) of)) ∙ headed in
+      let found-is = header-found s 0 here in
+      let same-n : H-tasks s 0 ≡ n = cc in
+      let same-m : H-processors s 0 ≡ m = cc in
+      let same-b : H-budget s 0 ≡ b = cc in
+      rw (← here, same-n, same-m, same-b)
 
-    same-m : H-processors s 0 ≡ m
-    same-m = let is = header-found s 0 headed in cc
+module _ (s : List ℕ) {A : Type 0} {part : Read A} (step : ℕ → A → Read Request) (left : read-request s ≡ then part step)
+    (p : Passed) (a : A) (answered : meant-part p a ≡ part) where
+  pub part-read : {next : Cursor} → p ≡ passed.To next → read-request s ≡ step (next .at) a
+  unfolding then
+  part-read is = rw (left, ← answered, is)
 
-    same-b : H-budget s 0 ≡ b
-    same-b = let is = header-found s 0 headed in cc
+  pub part-refused : {r : Reading} {number place : ℕ} → p ≡ passed.Refused number place → r ≡ refusal-of p → meant-reading s r ≡ read-request s
+  unfolding then
+  part-refused is same = rw (left, same, ← answered, is)
 
-    pub deadline-refused : {number place : ℕ} → stopped number place ≡ deadline-part s after → stopped number place ≡ read-request s
-    unfolding read-request then
-    deadline-refused e = rw (← headed, ← e)
+module _ (s : List ℕ) (end : ℕ) (r : Request) (left : read-request s ≡ nothing-after s end r) where
+  pub bytes-after : end < length s → stopped 6 end ≡ read-request s
+  unfolding nothing-after
+  bytes-after h = rw (left, lt-ltb _ _ h)
 
-    module _ {prices-at : ℕ} {d : Deadline} (dated : read prices-at d ≡ deadline-part s after) where
-      pub prices-refused : {number place : ℕ} → stopped number place ≡ prices-part s m prices-at → stopped number place ≡ read-request s
-      unfolding read-request then
-      prices-refused e = rw (← headed, ← dated, same-m, ← e)
-
-      module _ {tasks-at : ℕ} (priced : read tasks-at tt ≡ prices-part s m prices-at) where
-        pub tasks-refused : {number place : ℕ} →
-            stopped number place ≡ tasks-part s n m tasks-at → stopped number place ≡ read-request s
-        unfolding read-request then
-        tasks-refused e = rw (← headed, ← dated, same-m, ← priced, same-n, ← e)
-
-        module _ {edges-at : ℕ} (worked : read edges-at tt ≡ tasks-part s n m tasks-at) where
-          pub edges-refused : {number place : ℕ} → stopped number place ≡ edges-part s n edges-at (record { count = 0; from = 0; to = 0 }) 513 →
-              stopped number place ≡ read-request s
-          unfolding read-request then
-          edges-refused e = rw (← headed, ← dated, same-m, ← priced, same-n, ← worked, ← e)
-
-          module _ {end count : ℕ} (closed : read end count ≡ edges-part s n edges-at (record { count = 0; from = 0; to = 0 }) 513) where
-            abbrev pub view : Request
-            view =
-                record {
-                  tasks = n;
-                  processors = m;
-                  budget = b;
-                  deadline = d;
-                  prices-at = prices-at;
-                  tasks-at = tasks-at;
-                  edges-at = edges-at;
-                  edges = count;
-                }
-
-            read-so-far : read-request s ≡ nothing-after s end view
-            unfolding read-request then
-            read-so-far = rw (← headed, ← dated, same-m, ← priced, same-n, ← worked, ← closed, same-b)
-
-            pub bytes-after : end < length s → stopped 6 end ≡ read-request s
-            unfolding nothing-after
-            bytes-after h = rw (read-so-far, lt-ltb _ _ h)
-
-            pub good-request : length s ≤ end → read (length s) view ≡ read-request s
-            unfolding nothing-after
-            good-request h =
-                let e : read-request s ≡ read end view = rw (read-so-far, le-ltb _ _ h) in
-                rw (e, read-to-the-end s e)
+  pub good-request : length s ≤ end → read (length s) r ≡ read-request s
+  unfolding nothing-after
+  good-request h =
+      let e : read-request s ≡ read end r = rw (left, le-ltb _ _ h) in
+      rw (e, read-to-the-end s e)

@@ -6,7 +6,6 @@ use Rattle.rules.specs.Records.{Read, read, stopped}
 use Rattle.rules.specs.Reading as rules
 use Rattle.reader.specs.declared.Deadline.{Deadline}
 use Rattle.reader.specs.declared.Deadline.the-variants.{Without, By}
-use Rattle.reader.specs.declared.View.{View}
 use Rattle.reader.specs.declared.Reading.{Reading}
 use Rattle.reader.specs.declared.Reading.the-variants.{Good, Refused}
 use Rattle.reader.specs.Meaning.{meant-deadline, meant-reading}

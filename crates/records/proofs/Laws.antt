@@ -1,22 +1,21 @@
 -- How a reader of one kind answers: by the checks of every record first, then by those of its own.
-use mathlib.Core.Path.{_≡_, refl, sym, _∙_}
+use mathlib.Core.Path.{_≡_, refl, sym, _∙_, ap}
 use Prim.Native.Nat.{ℕ, zero, suc, _+_, _<_}
 use native.Mathlib.Omega.{arith}
 use mathlib.Core.Bool.{Bool, true, false}
-use mathlib.Core.List.{List, _∷_}
+use mathlib.Core.List.{List, [], _∷_}
 use lib.ListN.{length, List·getD-eq-default}
 use lib.Dec.{leb}
 use borrow.Author.Tests.{leb-true, leb-false}
 use Rattle.rules.specs.Fields.{Kind, kind-byte, size, byte}
-use Rattle.rules.specs.Records.{Record, Read, read, stopped, first-fault, opening, answered, record-at}
+use Rattle.rules.specs.Records.{Record, Read, read, stopped, first-fault, opening-by, opening, answered, record-at}
 use Rattle.good.specs.Records.{opened, not-opened}
-use Rattle.records.specs.Meaning.{opening-by}
 
 module _ (s : List ℕ) (at : ℕ) (k : Kind) {fault : ℕ} (opening-fault : fault ≡ first-fault (opening-by s at (kind-byte k) (size k)))
     (checks : List ℕ) (r : Record) where
   -- The record is not whole, or of another kind.
   pub refused-at-opening : (fault ≡ 0 → ⊥) → stopped fault at ≡ record-at s at k checks r
-  unfolding opening-by opening
+  unfolding opening
   refused-at-opening h = go fault h (sym opening-fault)
     where
       go : (f : ℕ) → (f ≡ 0 → ⊥) → first-fault (opening s at k) ≡ f → stopped f at ≡ record-at s at k checks r
@@ -26,7 +25,7 @@ module _ (s : List ℕ) (at : ℕ) (k : Kind) {fault : ℕ} (opening-fault : fau
   -- The record is whole and of this kind: its own checks answer.
   pub answered-by-its-own : {a : Read Record} →
       fault ≡ 0 → a ≡ answered (first-fault checks) at (at + size k) r → a ≡ record-at s at k checks r
-  unfolding opening-by opening
+  unfolding opening
   answered-by-its-own h e = e ∙ sym (opened s at k checks r (sym opening-fault ∙ h))
 
 -- A byte that is not 0 stands in the input.
@@ -47,6 +46,15 @@ fault-here (suc number) checks fails = refl
 pub fault-later : (check : ℕ) (checks : List ℕ) → check ≡ 0 → first-fault checks ≡ first-fault (check ∷ checks)
 unfolding first-fault
 fault-later check checks holds = rw holds
+
+-- The last check decides.
+pub only-check : (check : ℕ) → check ≡ first-fault (check ∷ [])
+unfolding first-fault
+only-check zero = refl
+only-check (suc number) = refl
+
+pub last-check : (check at next : ℕ) (r : Record) → answered check at next r ≡ answered (first-fault (check ∷ [])) at next r
+last-check check at next r = ap (λ fault. answered fault at next r) (only-check check)
 
 -- What the first fault answers.
 pub answers-refusal : {fault first : ℕ} (at next : ℕ) (r : Record) →

@@ -1,9 +1,8 @@
 -- What the code's records mean: document 01's record, number and place for each case.
-use Prim.Native.Nat.{ℕ, _+_}
-use mathlib.Core.Bool.{cond, not, _&&_}
-use mathlib.Core.List.{List, [], _∷_}
-use lib.ListN.{length}
-use lib.Dec.{ltb, leb, eqb}
+use Prim.Native.Nat.{ℕ}
+use mathlib.Core.Bool.{cond}
+use mathlib.Core.List.{List}
+use lib.Dec.{eqb}
 use Rattle.rules.specs.Fields.{Z, kind-byte, byte}
 use Rattle.rules.specs.Records as rules
 use Rattle.records.specs.declared.Record.{Record}
@@ -29,22 +28,6 @@ meant (Refused number place) = rules.stopped number place
 
 abbrev pub meant-edges : Edges → rules.Edges
 meant-edges before = record { count = before .count; from = before .from; to = before .to }
-
--- The checks of every record, by its kind byte and its size.
-unfoldable pub opening-by : List ℕ → ℕ → ℕ → ℕ → List ℕ
-opening-by s at kind size =
-    rules.unless (ltb at (length s)) 1
-    ∷ rules.unless (eqb (byte s at) kind) 2
-    ∷ rules.unless (leb (at + size) (length s)) 1
-    ∷ []
-
--- The checks of an edge's fields against their ranges.
-unfoldable pub edge-ranges : ℕ → ℕ → ℕ → ℕ → List ℕ
-edge-ranges from to transfer n =
-    rules.unless (ltb from n) 4
-    ∷ rules.unless (ltb to n && not (eqb from to)) 4
-    ∷ rules.unless (rules.within 0 transfer 1_000) 4
-    ∷ []
 
 -- After the tasks: `Z`, or else an edge is due.
 unfoldable pub edge-or-end-at : List ℕ → ℕ → ℕ → rules.Edges → rules.Read rules.Record

@@ -4,8 +4,9 @@ ghost use Prim.Native.Nat.{_+_, _*_, _≤_, _<_};
 ghost use mathlib.Core.Bool.{not};
 ghost use lib.ListN.{length};
 ghost use Rattle.rules.specs.Fields.{byte, two-bytes, four-bytes};
-ghost use Rattle.rules.specs.Records.{unless, first-fault, within, rising, header-at, deadline-at, price-at, task-at, minutes-at, edge-at};
-ghost use Rattle.records.specs.Meaning.{meant, meant-edges, opening-by, edge-ranges, edge-or-end-at};
+ghost use Rattle.rules.specs.Records.{unless, first-fault, opening-by, within, rising, edge-ranges};
+ghost use Rattle.rules.specs.Records.{header-at, deadline-at, price-at, task-at, minutes-at, edge-at};
+ghost use Rattle.records.specs.Meaning.{meant, meant-edges, edge-or-end-at};
 
 // Where a record begins.
 pub struct Cursor {

@@ -9,8 +9,8 @@ use Rattle.rules.specs.Folds.{sum, largest, lowest, any, listing}
 use Rattle.rules.specs.Orders.{tie, lower, higher, among, first}
 use Rattle.rules.specs.Fields.{kind-byte, body, size, byte, two-bytes, four-bytes, H-tasks, H-processors, H-budget, D-deadline, P-processor}
 use Rattle.rules.specs.Fields.{P-price, T-task, T-label, W-task, W-processor, W-minutes, E-from, E-to, E-transfer}
-use Rattle.rules.specs.Records.{Read, read, stopped, unless, first-fault, opening, answered, record-at, within, header-at, deadline-at}
-use Rattle.rules.specs.Records.{price-at, task-at, minutes-at, rising, edge-at, end-at}
+use Rattle.rules.specs.Records.{Read, read, stopped, unless, first-fault, opening-by, opening, answered, record-at, within, header-at, deadline-at}
+use Rattle.rules.specs.Records.{price-at, task-at, minutes-at, rising, edge-ranges, edge-at, end-at}
 use Rattle.rules.specs.Reading.{then, each, deadline-part, prices-part, task-part, tasks-part, edges-part, nothing-after, Request, read-request}
 use Rattle.rules.specs.Workflow.{price-place, task-place, minutes-place, edge-place, workflow}
 use Rattle.rules.specs.Labels.{part-of, label-place, label-part, label-in, label-lookup, label}
@@ -85,8 +85,8 @@ unfolding
     sum largest lowest any listing tie lower higher among first
     kind-byte body size byte two-bytes four-bytes
     H-tasks H-processors H-budget D-deadline P-processor P-price T-task T-label W-task W-processor W-minutes E-from E-to E-transfer
-    unless first-fault opening answered record-at within
-    header-at deadline-at price-at task-at minutes-at rising edge-at end-at
+    unless first-fault opening-by opening answered record-at within
+    header-at deadline-at price-at task-at minutes-at rising edge-ranges edge-at end-at
     then each deadline-part prices-part task-part tasks-part edges-part nothing-after read-request
     price-place task-place minutes-place edge-place workflow
     part-of label-place label-part label-in label-lookup label

@@ -34,13 +34,16 @@ first-fault [] = 0
 first-fault (zero ∷ checks) = first-fault checks
 first-fault (suc number ∷ checks) = suc number
 
--- "kind (a missing byte gives 1), whole body"; what a kind checks of its own comes after.
-unfoldable pub opening : List ℕ → ℕ → Kind → List ℕ
-opening s at k =
+-- "kind (a missing byte gives 1), whole body", by the kind's byte and the record's size; what a kind checks of its own comes after.
+unfoldable pub opening-by : List ℕ → ℕ → ℕ → ℕ → List ℕ
+opening-by s at kind size =
     unless (ltb at (length s)) 1
-    ∷ unless (eqb (byte s at) (kind-byte k)) 2
-    ∷ unless (leb (at + size k) (length s)) 1
+    ∷ unless (eqb (byte s at) kind) 2
+    ∷ unless (leb (at + size) (length s)) 1
     ∷ []
+
+unfoldable pub opening : List ℕ → ℕ → Kind → List ℕ
+opening s at k = opening-by s at (kind-byte k) (size k)
 
 unfoldable pub answered : ℕ → ℕ → ℕ → Record → Read Record
 answered zero at next r = read next r
@@ -106,19 +109,22 @@ rising before from to =
     eqb (before .count) 0
     || (ltb (before .from) from || (eqb (before .from) from && ltb (before .to) to))
 
--- "transfer 0..1,000, edge ends below n and unequal, at most 512 edges": "the 513th edge, 3, 4 in field order"
+-- "transfer 0..1,000, edge ends below n and unequal": "4 in field order"
+unfoldable pub edge-ranges : ℕ → ℕ → ℕ → ℕ → List ℕ
+edge-ranges from to transfer n =
+    unless (ltb from n) 4
+    ∷ unless (ltb to n && not (eqb from to)) 4
+    ∷ unless (within 0 transfer 1_000) 4
+    ∷ []
+
+-- "at most 512 edges": "the 513th edge, 3, 4 in field order"
 unfoldable pub edge-at : List ℕ → ℕ → ℕ → Edges → Read Record
 edge-at s at n before =
     let from = E-from s at in
     let to = E-to s at in
     let transfer = E-transfer s at in
     record-at s at E
-    (unless (ltb (before .count) 512) 4
-    ∷ unless (rising before from to) 3
-    ∷ unless (ltb from n) 4
-    ∷ unless (ltb to n && not (eqb from to)) 4
-    ∷ unless (within 0 transfer 1_000) 4
-    ∷ [])
+    (unless (ltb (before .count) 512) 4 ∷ unless (rising before from to) 3 ∷ edge-ranges from to transfer n)
     (edge from to transfer)
 
 unfoldable pub end-at : List ℕ → ℕ → Read Record

@@ -1,5 +1,5 @@
 -- After e edges the links are those of the first e.
-use Prim.Native.Nat.{_≤_, _-_}
+use Prim.Native.Nat.{_<_, _≤_, _-_}
 use mathlib.Core.Path.{sym}
 use Rattle.rules.specs.Workflow.{workflow}
 use Rattle.lookup.specs.Lookup.{workflow-of}
@@ -28,41 +28,29 @@ loop-holds c = (omega arith, linked-first _)
 to-requires : tie.Need-to-requires Inv-loop μ-loop
 to-requires c κs = search needs
 
+-- The edge that is passed, and the task that it leads to, have their places in the arrays.
+in-arrays : (c : tie.After-to Inv-loop μ-loop) → (c .before .before .before .loop .e < 512) × (c .to .result < 64)
+unfolding workflow
+in-arrays c =
+    let start = c .before .before .before .before .before in
+    let range = view-in-range (start .args .s .now) (start .args .v) (start .pre) in
+    (omega (arith, range .edges-in), omega (arith, c .to .ensures .1, range .tasks-in))
+
 -- src/lib.rt:23:21
 mul-before : tie.Need-mul-before Inv-loop μ-loop
-unfolding workflow
-mul-before c =
-    let start = c .before .before .before .before .before in
-    let a = start .args in
-    let range = view-in-range (a .s .now) (a .v) (start .pre) in
-    omega (arith, c .to .ensures .1, range .tasks-in)
+mul-before c = omega (arith, in-arrays c)
 
 -- src/lib.rt:23:21
 array-read-before : tie.Need-array-read-before Inv-loop μ-loop
-unfolding workflow
-array-read-before c =
-    let start = c .before .before .before .before .before in
-    let a = start .args in
-    let range = view-in-range (a .s .now) (a .v) (start .pre) in
-    omega (arith, c .to .ensures .1, range .tasks-in)
+array-read-before c = in-arrays c .1
 
 -- src/lib.rt:23:9
 mul-before-2 : tie.Need-mul-before-2 Inv-loop μ-loop
-unfolding workflow
-mul-before-2 c =
-    let start = c .before .before .before .before .before in
-    let a = start .args in
-    let range = view-in-range (a .s .now) (a .v) (start .pre) in
-    omega (arith, range .edges-in)
+mul-before-2 c = omega (arith, in-arrays c)
 
 -- src/lib.rt:23:9
 array-write-before : tie.Need-array-write-before Inv-loop μ-loop
-unfolding workflow
-array-write-before c =
-    let start = c .before .before .before .before .before in
-    let a = start .args in
-    let range = view-in-range (a .s .now) (a .v) (start .pre) in
-    omega (arith, range .edges-in)
+array-write-before c = in-arrays c .0
 
 -- src/lib.rt:24:9
 add-e : tie.Need-add-e Inv-loop μ-loop
@@ -70,30 +58,15 @@ add-e c = search needs
 
 -- src/lib.rt:25:20
 cast-last : tie.Need-cast-last Inv-loop μ-loop
-unfolding workflow
-cast-last c =
-    let start = c .before .before .before .before .before in
-    let a = start .args in
-    let range = view-in-range (a .s .now) (a .v) (start .pre) in
-    omega (arith, range .edges-in)
+cast-last c = omega (arith, in-arrays c)
 
 -- src/lib.rt:25:9
 mul-last : tie.Need-mul-last Inv-loop μ-loop
-unfolding workflow
-mul-last c =
-    let start = c .before .before .before .before .before in
-    let a = start .args in
-    let range = view-in-range (a .s .now) (a .v) (start .pre) in
-    omega (arith, c .to .ensures .1, range .tasks-in)
+mul-last c = omega (arith, in-arrays c)
 
 -- src/lib.rt:25:9
 array-write-last : tie.Need-array-write-last Inv-loop μ-loop
-unfolding workflow
-array-write-last c =
-    let start = c .before .before .before .before .before in
-    let a = start .args in
-    let range = view-in-range (a .s .now) (a .v) (start .pre) in
-    omega (arith, c .to .ensures .1, range .tasks-in)
+array-write-last c = in-arrays c .1
 
 -- src/lib.rt:21:5
 loop-less : tie.Need-loop-less Inv-loop μ-loop
@@ -101,13 +74,10 @@ loop-less c = search needs
 
 -- src/lib.rt:21:5
 loop-again : tie.Need-loop-again Inv-loop μ-loop
-unfolding workflow
 loop-again c =
-    let start = c .before .before .before .before .before in
-    let a = start .args in
-    let range = view-in-range (a .s .now) (a .v) (start .pre) in
     let loop = c .before .before .before .loop in
-    (omega arith, linked-next _ (loop .e) (loop .last) (loop .before) (loop .inv .1) (omega (arith, range .edges-in)) (c .to .result) (sym (c .to .ensures .0)) (omega (arith, c .to .ensures .1, range .tasks-in)))
+    let (edge, task) = in-arrays c in
+    (omega arith, linked-next _ (loop .e) (loop .last) (loop .before) (loop .inv .1) edge (c .to .result) (sym (c .to .ensures .0)) task)
 
 -- src/lib.rt:14:1
 returns : tie.Need-returns Inv-loop μ-loop

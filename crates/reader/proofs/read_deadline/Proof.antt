@@ -8,7 +8,6 @@ use Rattle.reader.proofs.Found.{due-among, deadline-found}
 use borrow.Author.Tests.{eq-eqb, ne-eqb}
 use Rattle.rules.specs.Fields.{kind-byte}
 use Rattle.rules.specs.Reading.{then, deadline-part}
-use native.Mathlib.Omega.{arith}
 use borrow.Author.Needs.{needs}
 use Rattle.reader.proofs.read_deadline.Statement.{statement}
 use Rattle.reader.proofs.read_deadline.Tie as tie

@@ -1,14 +1,13 @@
 -- Each step's answer is that of the rules; the first that refuses is the answer, and where none does the view is the rules' request.
-use mathlib.Core.Path.{sym, _∙_, ap}
+use mathlib.Core.Path.{_≡_, sym, _∙_, ap}
 use mathlib.Core.List.{[], _∷_}
 use types.Run.{miss}
-use Rattle.records.specs.declared.RecordAnswer.the-variants as records
+use Rattle.rules.specs.Reading.{read-request}
 use Rattle.records.specs.Meaning.{meant}
-use Rattle.reader.specs.Meaning.{meant-part, meant-deadline}
+use Rattle.reader.specs.Meaning.{meant-deadline, refusal-of}
 use Rattle.reader.proofs.Found.{due-among, header-found}
-use Rattle.reader.proofs.RequestLaws.{header-refused, deadline-refused, prices-refused, tasks-refused}
-use Rattle.reader.proofs.RequestLaws.{edges-refused, bytes-after, good-request}
-use native.Mathlib.Omega.{arith}
+use Rattle.reader.proofs.RequestLaws.{Headed, from-deadline, from-prices, from-tasks, from-edges, past-edges}
+use Rattle.reader.proofs.RequestLaws.{header-refused, header-read, part-refused, part-read, bytes-after, good-request}
 use borrow.Author.Needs.{needs}
 use Rattle.reader.proofs.read_request.Statement.{statement}
 use Rattle.reader.proofs.read_request.Tie as tie
@@ -21,6 +20,64 @@ use Rattle.reader.proofs.read_prices.Reads as read-prices-reads
 use Rattle.reader.proofs.read_tasks.Reads as read-tasks-reads
 use Rattle.reader.proofs.refused.Reads as refused-reads
 use Rattle.records.proofs.read_header.Reads as read-header-reads
+
+-- What was read of the header; and past each step, what is left to read is the request's answer.
+abbrev headed : tie.After-known-told2 → Headed
+headed c =
+    let numbers = c .before .found .given .0 in
+    record {
+      input = c .before .before .before .before .before .before .before .before .args .s .now;
+      tasks = numbers .0;
+      processors = numbers .1 .0;
+      budget = numbers .1 .1 .0;
+    }
+
+deadline-left : (c : tie.After-known-told2) →
+    read-request (headed c .input) ≡ from-deadline (headed c) (c .before .before .before .before .answer .given .0 .0 .at)
+deadline-left c =
+    let answer = c .before .before .before .before .answer in
+    header-read _ _ (c .before .before .before .before .before .before .read-header .ensures) (answer .given .1) (c .before .found .given .1)
+
+prices-left : (c : tie.After-known-told3) →
+    let before = c .before .before .before in
+    let h = headed (before .before) in
+    read-request (h .input) ≡ from-prices h (meant-deadline (before .read-deadline .result .deadline)) (c .before .dated .given .0 .0 .at)
+prices-left c =
+    let before = c .before .before .before in
+    part-read _ _ (deadline-left (before .before)) _ _ (before .read-deadline .ensures) (c .before .dated .given .1)
+
+tasks-left : (c : tie.After-known-told4) →
+    let dated = c .before .before .before .before in
+    let h = headed (dated .before .before .before .before) in
+    let d = meant-deadline (dated .before .before .before .read-deadline .result .deadline) in
+    read-request (h .input) ≡ from-tasks h d (dated .before .dated .given .0 .0 .at) (c .before .priced .given .0 .0 .at)
+tasks-left c =
+    let before = c .before .before .before in
+    part-read _ _ (prices-left (before .before)) _ _ (before .read-prices .ensures) (c .before .priced .given .1)
+
+edges-left : (c : tie.After-known-told5) →
+    let priced = c .before .before .before .before in
+    let dated = priced .before .before .before .before in
+    let h = headed (dated .before .before .before .before) in
+    let d = meant-deadline (dated .before .before .before .read-deadline .result .deadline) in
+    read-request (h .input) ≡
+    from-edges h d (dated .before .dated .given .0 .0 .at) (priced .before .priced .given .0 .0 .at) (c .before .worked .given .0 .0 .at)
+edges-left c =
+    let before = c .before .before .before in
+    part-read _ _ (tasks-left (before .before)) _ _ (before .read-tasks .ensures) (c .before .worked .given .1)
+
+end-left : (c : tie.After-known-told6) →
+    let worked = c .before .before .before .before in
+    let priced = worked .before .before .before .before in
+    let dated = priced .before .before .before .before in
+    let h = headed (dated .before .before .before .before) in
+    let d = meant-deadline (dated .before .before .before .read-deadline .result .deadline) in
+    read-request (h .input) ≡
+    past-edges h d (dated .before .dated .given .0 .0 .at) (priced .before .priced .given .0 .0 .at) (worked .before .worked .given .0 .0 .at)
+    (c .before .closed .given .0 .0 .at) (c .before .before .before .read-edges .result .count)
+end-left c =
+    let before = c .before .before .before in
+    part-read _ _ (edges-left (before .before)) _ _ (before .read-edges .ensures) (c .before .closed .given .1)
 
 -- src/lib.rt:210:9
 read-header-requires : tie.Need-read-header-requires
@@ -45,12 +102,8 @@ refused-requires c κs = search needs
 -- src/lib.rt:212:9
 returns : tie.Need-returns
 returns c =
-    let a = c .before .before .before .before .before .before .args in
-    let read-header = c .before .before .before .before .read-header in
-    let enum-told = c .before .before .enum-told in
-    let handed-up = c .before .handed-up in
-    rw (c .refused .ensures, handed-up .ensures, enum-told .given .1)
-    (header-refused (a .s .now) (sym (ap meant (enum-told .given .1)) ∙ read-header .ensures))
+    header-refused _ _ (c .before .before .before .before .read-header .ensures) (c .before .before .enum-told .given .1)
+    (c .refused .ensures ∙ ap refusal-of (c .before .handed-up .ensures))
 
 -- src/lib.rt:215:9
 enum-known-found : tie.Need-enum-known-found
@@ -93,17 +146,8 @@ refused-requires-3 c κs = search needs
 -- src/lib.rt:226:9
 returns-3 : tie.Need-returns-3
 returns-3 c =
-    let c₈ = c .before .before .before .before .before .before .before .before in
-    let a = c₈ .before .before .before .before .args in
-    let read-header = c₈ .before .before .read-header in
-    let answer = c₈ .answer in
-    let found = c .before .before .before .before .before .found in
-    let read-deadline = c .before .before .before .read-deadline in
-    let enum-told2 = c .before .enum-told2 in
-    let headed = sym (ap meant (answer .given .1 ∙ ap (records.Read (answer .given .0 .0)) (found .given .1))) ∙ read-header .ensures in
-    rw (c .refused3 .ensures, enum-told2 .given .1)
-    (deadline-refused (a .s .now) headed (sym (ap (λ p. meant-part p (meant-deadline (read-deadline .result .deadline))) (enum-told2 .given .1)) ∙
-    read-deadline .ensures))
+    let before = c .before .before .before in
+    part-refused _ _ (deadline-left (before .before)) _ _ (before .read-deadline .ensures) (c .before .enum-told2 .given .1) (c .refused3 .ensures)
 
 -- src/lib.rt:228:9
 read-prices-requires : tie.Need-read-prices-requires
@@ -124,20 +168,8 @@ refused-requires-4 c κs = search needs
 -- src/lib.rt:230:9
 returns-4 : tie.Need-returns-4
 returns-4 c =
-    let c₈ = c .before .before .before .before .before .before .before .before in
-    let c₁₆ = c₈ .before .before .before .before .before .before .before .before in
-    let a = c₁₆ .args in
-    let read-header = c₈ .before .before .before .before .before .before .read-header in
-    let answer = c₈ .before .before .before .before .answer in
-    let found = c₈ .before .found in
-    let read-deadline = c .before .before .before .before .before .before .before .read-deadline in
-    let dated-here = c .before .before .before .before .before .dated in
-    let read-prices = c .before .before .before .read-prices in
-    let enum-told3 = c .before .enum-told3 in
-    let headed = sym (ap meant (answer .given .1 ∙ ap (records.Read (answer .given .0 .0)) (found .given .1))) ∙ read-header .ensures in
-    let dated = sym (ap (λ p. meant-part p (meant-deadline (read-deadline .result .deadline))) (dated-here .given .1)) ∙ read-deadline .ensures in
-    rw (c .refused4 .ensures, enum-told3 .given .1)
-    (prices-refused (a .s .now) headed dated (sym (ap (λ p. meant-part p tt) (enum-told3 .given .1)) ∙ read-prices .ensures))
+    let before = c .before .before .before in
+    part-refused _ _ (prices-left (before .before)) _ _ (before .read-prices .ensures) (c .before .enum-told3 .given .1) (c .refused4 .ensures)
 
 -- src/lib.rt:232:9
 read-tasks-requires : tie.Need-read-tasks-requires
@@ -158,23 +190,8 @@ refused-requires-5 c κs = search needs
 -- src/lib.rt:234:9
 returns-5 : tie.Need-returns-5
 returns-5 c =
-    let c₈ = c .before .before .before .before .before .before .before .before in
-    let c₁₆ = c₈ .before .before .before .before .before .before .before .before in
-    let a = c₁₆ .before .before .before .before .args in
-    let read-header = c₁₆ .before .before .read-header in
-    let answer = c₁₆ .answer in
-    let found = c₈ .before .before .before .before .before .found in
-    let read-deadline = c₈ .before .before .before .read-deadline in
-    let dated-here = c₈ .before .dated in
-    let read-prices = c .before .before .before .before .before .before .before .read-prices in
-    let priced-here = c .before .before .before .before .before .priced in
-    let read-tasks = c .before .before .before .read-tasks in
-    let enum-told4 = c .before .enum-told4 in
-    let headed = sym (ap meant (answer .given .1 ∙ ap (records.Read (answer .given .0 .0)) (found .given .1))) ∙ read-header .ensures in
-    let dated = sym (ap (λ p. meant-part p (meant-deadline (read-deadline .result .deadline))) (dated-here .given .1)) ∙ read-deadline .ensures in
-    let priced = sym (ap (λ p. meant-part p tt) (priced-here .given .1)) ∙ read-prices .ensures in
-    rw (c .refused5 .ensures, enum-told4 .given .1)
-    (tasks-refused (a .s .now) headed dated priced (sym (ap (λ p. meant-part p tt) (enum-told4 .given .1)) ∙ read-tasks .ensures))
+    let before = c .before .before .before in
+    part-refused _ _ (tasks-left (before .before)) _ _ (before .read-tasks .ensures) (c .before .enum-told4 .given .1) (c .refused5 .ensures)
 
 -- src/lib.rt:236:9
 read-edges-requires : tie.Need-read-edges-requires
@@ -195,78 +212,16 @@ refused-requires-6 c κs = search needs
 -- src/lib.rt:239:9
 returns-6 : tie.Need-returns-6
 returns-6 c =
-    let c₈ = c .before .before .before .before .before .before .before .before in
-    let c₁₆ = c₈ .before .before .before .before .before .before .before .before in
-    let c₂₄ = c₁₆ .before .before .before .before .before .before .before .before in
-    let a = c₂₄ .args in
-    let read-header = c₁₆ .before .before .before .before .before .before .read-header in
-    let answer = c₁₆ .before .before .before .before .answer in
-    let found = c₁₆ .before .found in
-    let read-deadline = c₈ .before .before .before .before .before .before .before .read-deadline in
-    let dated-here = c₈ .before .before .before .before .before .dated in
-    let read-prices = c₈ .before .before .before .read-prices in
-    let priced-here = c₈ .before .priced in
-    let read-tasks = c .before .before .before .before .before .before .before .read-tasks in
-    let worked-here = c .before .before .before .before .before .worked in
-    let read-edges = c .before .before .before .read-edges in
-    let enum-told5 = c .before .enum-told5 in
-    let headed = sym (ap meant (answer .given .1 ∙ ap (records.Read (answer .given .0 .0)) (found .given .1))) ∙ read-header .ensures in
-    let dated = sym (ap (λ p. meant-part p (meant-deadline (read-deadline .result .deadline))) (dated-here .given .1)) ∙ read-deadline .ensures in
-    let priced = sym (ap (λ p. meant-part p tt) (priced-here .given .1)) ∙ read-prices .ensures in
-    let worked = sym (ap (λ p. meant-part p tt) (worked-here .given .1)) ∙ read-tasks .ensures in
-    rw (c .refused6 .ensures, enum-told5 .given .1)
-    (edges-refused (a .s .now) headed dated priced worked (sym (ap (λ p. meant-part p (read-edges .result .count)) (enum-told5 .given .1)) ∙
-    read-edges .ensures))
+    let before = c .before .before .before in
+    part-refused _ _ (edges-left (before .before)) _ _ (before .read-edges .ensures) (c .before .enum-told5 .given .1) (c .refused6 .ensures)
 
 -- src/lib.rt:242:9
 returns-7 : tie.Need-returns-7
-returns-7 c =
-    let c₈ = c .before .before .before .before .before .before .before .before in
-    let c₁₆ = c₈ .before .before .before .before .before .before .before .before in
-    let c₂₄ = c₁₆ .before .before .before .before .before .before .before .before in
-    let a = c₂₄ .before .before .args in
-    let read-header = c₂₄ .read-header in
-    let answer = c₁₆ .before .before .before .before .before .before .answer in
-    let found = c₁₆ .before .before .before .found in
-    let read-deadline = c₁₆ .before .read-deadline in
-    let dated-here = c₈ .before .before .before .before .before .before .before .dated in
-    let read-prices = c₈ .before .before .before .before .before .read-prices in
-    let priced-here = c₈ .before .before .before .priced in
-    let read-tasks = c₈ .before .read-tasks in
-    let worked-here = c .before .before .before .before .before .before .before .worked in
-    let read-edges = c .before .before .before .before .before .read-edges in
-    let closed-here = c .before .before .before .closed in
-    let headed = sym (ap meant (answer .given .1 ∙ ap (records.Read (answer .given .0 .0)) (found .given .1))) ∙ read-header .ensures in
-    let dated = sym (ap (λ p. meant-part p (meant-deadline (read-deadline .result .deadline))) (dated-here .given .1)) ∙ read-deadline .ensures in
-    let priced = sym (ap (λ p. meant-part p tt) (priced-here .given .1)) ∙ read-prices .ensures in
-    let worked = sym (ap (λ p. meant-part p tt) (worked-here .given .1)) ∙ read-tasks .ensures in
-    let closed = sym (ap (λ p. meant-part p (read-edges .result .count)) (closed-here .given .1)) ∙ read-edges .ensures in
-    bytes-after (a .s .now) headed dated priced worked closed (c .if1 .taken)
+returns-7 c = bytes-after _ _ _ (end-left (c .before .before)) (c .if1 .taken)
 
 -- src/lib.rt:207:1
 returns-8 : tie.Need-returns-8
-returns-8 c =
-    let c₈ = c .before .before .before .before .before .before .before .before in
-    let c₁₆ = c₈ .before .before .before .before .before .before .before .before in
-    let c₂₄ = c₁₆ .before .before .before .before .before .before .before .before in
-    let a = c₂₄ .before .before .args in
-    let read-header = c₂₄ .read-header in
-    let answer = c₁₆ .before .before .before .before .before .before .answer in
-    let found = c₁₆ .before .before .before .found in
-    let read-deadline = c₁₆ .before .read-deadline in
-    let dated-here = c₈ .before .before .before .before .before .before .before .dated in
-    let read-prices = c₈ .before .before .before .before .before .read-prices in
-    let priced-here = c₈ .before .before .before .priced in
-    let read-tasks = c₈ .before .read-tasks in
-    let worked-here = c .before .before .before .before .before .before .before .worked in
-    let read-edges = c .before .before .before .before .before .read-edges in
-    let closed-here = c .before .before .before .closed in
-    let headed = sym (ap meant (answer .given .1 ∙ ap (records.Read (answer .given .0 .0)) (found .given .1))) ∙ read-header .ensures in
-    let dated = sym (ap (λ p. meant-part p (meant-deadline (read-deadline .result .deadline))) (dated-here .given .1)) ∙ read-deadline .ensures in
-    let priced = sym (ap (λ p. meant-part p tt) (priced-here .given .1)) ∙ read-prices .ensures in
-    let worked = sym (ap (λ p. meant-part p tt) (worked-here .given .1)) ∙ read-tasks .ensures in
-    let closed = sym (ap (λ p. meant-part p (read-edges .result .count)) (closed-here .given .1)) ∙ read-edges .ensures in
-    good-request (a .s .now) headed dated priced worked closed (c .if1 .left)
+returns-8 c = good-request _ _ _ (end-left (c .before .before)) (c .if1 .left)
 
 pub read-request-spec : {M : Type 1} → statement M
 read-request-spec =

@@ -1,9 +1,9 @@
 -- The loop has read the first j records of minutes, up to the cursor.
-use mathlib.Core.Path.{_≡_, refl}
-use Prim.Native.Nat.{_-_, _≤_}
-use Rattle.rules.specs.Records.{read, minutes-at}
-use Rattle.rules.specs.Reading.{each}
-use Rattle.reader.proofs.Laws.{record-more, record-refused, all-read}
+use mathlib.Core.Path.{ap}
+use Prim.Native.Nat.{_-_}
+use Rattle.rules.specs.Records.{minutes-at}
+use Rattle.records.specs.Meaning.{meant}
+use Rattle.reader.proofs.Laws.{Reached, none-reached, one-more-reached, refused-there, all-reached}
 use borrow.Author.Needs.{needs}
 use native.Mathlib.Omega.{arith}
 use Rattle.reader.proofs.read_row.Statement.{statement}
@@ -14,15 +14,14 @@ use Rattle.reader.proofs.handed_up.Reads as handed-up-reads
 use Rattle.records.proofs.read_minutes.Reads as read-minutes-reads
 
 abbrev Inv-loop : tie.InvT-loop
-Inv-loop s task m next₀ j₀ next j = (each (λ at j. minutes-at s at task j) (next₀ .at) j ≡ read (next .at) tt) × (j ≤ m)
+Inv-loop s task m next₀ j₀ next j = Reached (λ at j. minutes-at s at task j) (next₀ .at) m j (next .at)
 
 abbrev μ-loop : tie.MeasureT-loop
 μ-loop s task m next₀ j₀ next j = m - j
 
 -- src/lib.rt:90:5
 loop-holds : tie.Need-loop-holds Inv-loop μ-loop
-unfolding each
-loop-holds c = (refl, omega arith)
+loop-holds c = none-reached
 
 -- src/lib.rt:91:13
 read-minutes-requires : tie.Need-read-minutes-requires Inv-loop μ-loop
@@ -43,13 +42,10 @@ handed-up-requires c κs = search needs
 -- src/lib.rt:93:13
 returns : tie.Need-returns Inv-loop μ-loop
 returns c =
-    let a = c .before .before .before .before .before .before .before .args in
-    let loop = c .before .before .before .before .before .loop in
-    let loop-test = c .before .before .before .before .loop-test in
-    let read-minutes = c .before .before .before .read-minutes in
-    let enum-told = c .before .enum-told in
-    record-refused (λ at j. minutes-at (a .s .now) at (a .task) j) (a .c .at) (loop .j) (loop .next .at) (loop .inv .0)
-    (read-minutes .result) (read-minutes .ensures) _ (enum-told .given .1) (loop-test .taken) (c .handed-up .ensures)
+    let answered = c .before .before .before in
+    rw (c .handed-up .ensures, c .before .enum-told .given .1)
+    (refused-there (answered .before .before .loop .inv) (answered .before .loop-test .taken) (answered .read-minutes .ensures)
+    (ap meant (c .before .enum-told .given .1)))
 
 -- src/lib.rt:96:9
 add-j : tie.Need-add-j Inv-loop μ-loop
@@ -62,19 +58,13 @@ loop-less c = omega arith
 -- src/lib.rt:90:5
 loop-again : tie.Need-loop-again Inv-loop μ-loop
 loop-again c =
-    let a = c .before .before .before .before .before .before .before .args in
-    let loop = c .before .before .before .before .before .loop in
-    let read-minutes = c .before .before .before .read-minutes in
-    let more = record-more (λ at j. minutes-at (a .s .now) at (a .task) j) (a .c .at) (loop .j) (loop .next .at) (loop .inv .0)
-    (read-minutes .result) (read-minutes .ensures) (c .before .answer .given .1) in
-    (more, omega arith)
+    let answered = c .before .before .before in
+    one-more-reached (answered .before .before .loop .inv) (answered .before .loop-test .taken) (answered .read-minutes .ensures)
+    (ap meant (c .before .answer .given .1))
 
 -- src/lib.rt:85:1
 returns-2 : tie.Need-returns-2 Inv-loop μ-loop
-returns-2 c =
-    let a = c .before .before .before .args in
-    let loop = c .before .loop in
-    all-read (λ at j. minutes-at (a .s .now) at (a .task) j) (a .c .at) (loop .j) (a .m) (loop .inv .0) (loop .inv .1) (c .loop-test .left)
+returns-2 c = all-reached (c .before .loop .inv) (c .loop-test .left)
 
 pub read-row-spec : {M : Type 1} → statement M
 read-row-spec =

@@ -1,6 +1,5 @@
 -- A `T`, and then what `read_row` reads.
 use Rattle.rules.specs.Reading.{then, task-part}
-use native.Mathlib.Omega.{arith}
 use borrow.Author.Needs.{needs}
 use Rattle.reader.proofs.read_task.Statement.{statement}
 use Rattle.reader.proofs.read_task.Tie as tie

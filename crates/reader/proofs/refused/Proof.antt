@@ -1,5 +1,4 @@
 -- By the cases of the answer.
-use native.Mathlib.Omega.{arith}
 use borrow.Author.Needs.{needs}
 use Rattle.reader.proofs.refused.Statement.{statement}
 use Rattle.reader.proofs.refused.Tie as tie

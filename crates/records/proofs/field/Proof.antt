@@ -1,6 +1,5 @@
 -- The byte as a number.
 use Rattle.rules.specs.Fields.{byte}
-use native.Mathlib.Omega.{arith}
 use borrow.Author.Needs.{needs}
 use Rattle.records.proofs.field.Statement.{statement}
 use Rattle.records.proofs.field.Tie as tie
@@ -8,19 +7,19 @@ use Rattle.records.proofs.field.Reads as reads
 use Rattle.records.proofs.field.Lts as lts
 use Rattle.records.proofs.number.Reads as number-reads
 
--- src/lib.rt:70:14
+-- src/lib.rt:71:14
 add-number : tie.Need-add-number
 add-number c = search needs
 
--- src/lib.rt:70:12
+-- src/lib.rt:71:12
 shared-slice-read-number : tie.Need-shared-slice-read-number
 shared-slice-read-number c = search needs
 
--- src/lib.rt:70:5
+-- src/lib.rt:71:5
 number-requires : tie.Need-number-requires
 number-requires c κs = search needs
 
--- src/lib.rt:66:1
+-- src/lib.rt:67:1
 returns : tie.Need-returns
 unfolding byte
 returns c = c .number .ensures

@@ -10,27 +10,27 @@ use Rattle.records.proofs.four_bytes.Reads as reads
 use Rattle.records.proofs.four_bytes.Lts as lts
 use Rattle.records.proofs.two_bytes.Reads as two-bytes-reads
 
--- src/lib.rt:88:5
+-- src/lib.rt:89:5
 two-bytes-requires : tie.Need-two-bytes-requires
 two-bytes-requires c κs = search needs
 
--- src/lib.rt:88:49
+-- src/lib.rt:89:49
 add-two-bytes : tie.Need-add-two-bytes
 add-two-bytes c = search needs
 
--- src/lib.rt:88:36
+-- src/lib.rt:89:36
 two-bytes-requires-2 : tie.Need-two-bytes-requires-2
 two-bytes-requires-2 c κs = search needs
 
--- src/lib.rt:88:27
+-- src/lib.rt:89:27
 mul-result : tie.Need-mul-result
 mul-result c = search needs
 
--- src/lib.rt:88:5
+-- src/lib.rt:89:5
 add-result : tie.Need-add-result
 add-result c = search needs
 
--- src/lib.rt:84:1
+-- src/lib.rt:85:1
 returns : tie.Need-returns
 unfolding four-bytes
 returns c =

@@ -3,8 +3,7 @@ use Prim.Native.Nat.{_+_, _<_, _≤_}
 use lib.ListN.{length}
 use borrow.Author.Tests.{eq-eqb, ne-eqb, lt-ltb, le-ltb, lt-leb, le-leb}
 use Rattle.rules.specs.Fields.{byte}
-use Rattle.rules.specs.Records.{unless, first-fault}
-use Rattle.records.specs.Meaning.{opening-by}
+use Rattle.rules.specs.Records.{unless, first-fault, opening-by}
 use native.Mathlib.Omega.{arith}
 use borrow.Author.Needs.{needs}
 use Rattle.records.proofs.opening_fault.Statement.{statement}
@@ -12,25 +11,25 @@ use Rattle.records.proofs.opening_fault.Tie as tie
 use Rattle.records.proofs.opening_fault.Reads as reads
 use Rattle.records.proofs.opening_fault.Lts as lts
 
--- src/lib.rt:103:9
+-- src/lib.rt:105:9
 returns : tie.Need-returns
 unfolding opening-by first-fault unless byte
 returns c = (simp (le-ltb _ _ (c .if1 .taken)), λ e. absurd (omega arith))
 
--- src/lib.rt:105:8
+-- src/lib.rt:107:8
 shared-slice-read-if2 : tie.Need-shared-slice-read-if2
 shared-slice-read-if2 c = search needs
 
--- src/lib.rt:106:9
+-- src/lib.rt:108:9
 returns-2 : tie.Need-returns-2
 unfolding opening-by first-fault unless byte
 returns-2 c = (simp (lt-ltb _ _ (c .before .before .if1 .left), ne-eqb _ _ (c .if2 .taken)), λ e. absurd (omega arith))
 
--- src/lib.rt:108:8
+-- src/lib.rt:110:8
 sub-if3 : tie.Need-sub-if3
 sub-if3 c = search needs
 
--- src/lib.rt:109:9
+-- src/lib.rt:111:9
 returns-3 : tie.Need-returns-3
 unfolding opening-by first-fault unless byte
 returns-3 c =
@@ -41,7 +40,7 @@ returns-3 c =
       λ e. absurd (omega arith),
     )
 
--- src/lib.rt:99:1
+-- src/lib.rt:101:1
 returns-4 : tie.Need-returns-4
 unfolding opening-by first-fault unless byte
 returns-4 c =

@@ -1,24 +1,22 @@
 -- Each return is what the two comparisons of `within` come to.
 use borrow.Author.Tests.{lt-leb, le-leb}
 use Rattle.rules.specs.Records.{within}
-use borrow.Author.Needs.{needs}
-use native.Mathlib.Omega.{arith}
 use Rattle.records.proofs.outside.Statement.{statement}
 use Rattle.records.proofs.outside.Tie as tie
 use Rattle.records.proofs.outside.Reads as reads
 use Rattle.records.proofs.outside.Lts as lts
 
--- src/lib.rt:119:9
+-- src/lib.rt:121:9
 returns : tie.Need-returns
 unfolding within
 returns c = simp (lt-leb _ _ (c .if1 .taken))
 
--- src/lib.rt:122:9
+-- src/lib.rt:124:9
 returns-2 : tie.Need-returns-2
 unfolding within
 returns-2 c = simp (le-leb _ _ (c .before .if1 .left), lt-leb _ _ (c .if2 .taken))
 
--- src/lib.rt:115:1
+-- src/lib.rt:117:1
 returns-3 : tie.Need-returns-3
 unfolding within
 returns-3 c = simp (le-leb _ _ (c .before .if1 .left), le-leb _ _ (c .if2 .left))

@@ -1,8 +1,9 @@
 -- Each return is the first of the three range checks that fails, or none.
+use mathlib.Core.Path.{_≡_}
+use mathlib.Core.Bool.{not}
 use borrow.Author.Tests.{eq-eqb, ne-eqb, lt-ltb, le-ltb}
-use Rattle.rules.specs.Records.{unless, first-fault}
-use Rattle.records.specs.Meaning.{edge-ranges}
-use native.Mathlib.Omega.{arith}
+use Rattle.rules.specs.Records.{unless, first-fault, edge-ranges}
+use Rattle.records.proofs.Laws.{only-check}
 use borrow.Author.Needs.{needs}
 use Rattle.records.proofs.range_fault.Statement.{statement}
 use Rattle.records.proofs.range_fault.Tie as tie
@@ -10,52 +11,43 @@ use Rattle.records.proofs.range_fault.Reads as reads
 use Rattle.records.proofs.range_fault.Lts as lts
 use Rattle.records.proofs.outside.Reads as outside-reads
 
--- src/lib.rt:268:9
+-- src/lib.rt:272:9
 returns : tie.Need-returns
 unfolding edge-ranges first-fault unless
 returns c = simp (le-ltb _ _ (c .if1 .taken))
 
--- src/lib.rt:271:9
+-- src/lib.rt:275:9
 returns-2 : tie.Need-returns-2
 unfolding edge-ranges first-fault unless
 returns-2 c = simp (lt-ltb _ _ (c .before .if1 .left), le-ltb _ _ (c .if2 .taken))
 
--- src/lib.rt:274:9
+-- src/lib.rt:278:9
 returns-3 : tie.Need-returns-3
 unfolding edge-ranges first-fault unless
 returns-3 c = simp (lt-ltb _ _ (c .before .before .if1 .left), lt-ltb _ _ (c .before .if2 .left), eq-eqb _ _ (c .if3 .taken))
 
--- src/lib.rt:276:8
+-- src/lib.rt:280:8
 outside-requires : tie.Need-outside-requires
 outside-requires c κs = search needs
 
--- src/lib.rt:277:9
-returns-4 : tie.Need-returns-4
+-- With both ends in range, the transfer decides.
+by-transfer : (c : tie.After-outside) →
+    let a = c .before .before .before .before .args in
+    unless (not (c .outside .result)) 4 ≡ first-fault (edge-ranges (a .from) (a .to) (a .transfer) (a .n))
 unfolding edge-ranges first-fault unless
-returns-4 c =
-    let if1-here = c .before .before .before .before .if1 in
-    let if2-here = c .before .before .before .if2 in
-    let if3-here = c .before .before .if3 in
-    let outside-here = c .before .outside in
-    let if1 = if1-here in
-    let if2 = if2-here in
-    let if3 = if3-here in
-    let outside = outside-here in
-    simp (lt-ltb _ _ (if1 .left), lt-ltb _ _ (if2 .left), ne-eqb _ _ (if3 .left), outside .ensures, c .if4 .taken)
+by-transfer c =
+    simp (lt-ltb _ _ (c .before .before .before .if1 .left), lt-ltb _ _ (c .before .before .if2 .left), ne-eqb _ _ (c .before .if3 .left), c .outside .ensures)
+    (only-check _)
 
--- src/lib.rt:264:1
+-- src/lib.rt:281:9
+returns-4 : tie.Need-returns-4
+unfolding unless
+returns-4 c = rw (c .if4 .taken) at (by-transfer (c .before))
+
+-- src/lib.rt:268:1
 returns-5 : tie.Need-returns-5
-unfolding edge-ranges first-fault unless
-returns-5 c =
-    let if1-here = c .before .before .before .before .if1 in
-    let if2-here = c .before .before .before .if2 in
-    let if3-here = c .before .before .if3 in
-    let outside-here = c .before .outside in
-    let if1 = if1-here in
-    let if2 = if2-here in
-    let if3 = if3-here in
-    let outside = outside-here in
-    simp (lt-ltb _ _ (if1 .left), lt-ltb _ _ (if2 .left), ne-eqb _ _ (if3 .left), outside .ensures, c .if4 .left)
+unfolding unless
+returns-5 c = rw (c .if4 .left) at (by-transfer (c .before))
 
 pub range-fault-spec : {M : Type 1} → statement M
 range-fault-spec =

@@ -1,12 +1,14 @@
 -- The opening answers, or else the checks of `E`: too many edges, their order, their ranges.
+use mathlib.Core.Path.{_≡_, refl, sym, _∙_}
+use Prim.Native.Nat.{_+_, _≤_}
+use lib.Dec.{ltb}
+use lib.ListN.{length}
 use borrow.Author.Tests.{lt-ltb, le-ltb}
 use Rattle.rules.specs.Fields.{E, kind-byte, body, size, E-from, E-to, E-transfer}
-use Rattle.rules.specs.Records.{unless, first-fault, answered, edge-at}
+use Rattle.rules.specs.Records.{unless, first-fault, answered, rising, edge, edge-at}
 use Rattle.records.proofs.Laws.{refused-at-opening, answered-by-its-own}
 use Rattle.records.proofs.Laws.{answers-refusal, answers-record, fault-here, fault-later}
-use mathlib.Core.Path.{_≡_, sym, _∙_}
-use lib.Dec.{ltb}
-use Rattle.records.specs.Meaning.{edge-ranges}
+use Rattle.records.specs.Meaning.{meant-edges}
 use native.Mathlib.Omega.{arith}
 use borrow.Author.Needs.{needs}
 use Rattle.records.proofs.read_edge.Statement.{statement}
@@ -19,108 +21,100 @@ use Rattle.records.proofs.order_fault.Reads as order-fault-reads
 use Rattle.records.proofs.range_fault.Reads as range-fault-reads
 use Rattle.records.proofs.two_bytes.Reads as two-bytes-reads
 
--- src/lib.rt:290:9
+-- src/lib.rt:291:9
 opening-fault-requires : tie.Need-opening-fault-requires
 opening-fault-requires c κs = search needs
 
--- src/lib.rt:292:9
+-- src/lib.rt:293:9
 returns : tie.Need-returns
 unfolding edge-at kind-byte size body
 returns c = refused-at-opening _ _ E (c .before .opening-fault .ensures .0) _ _ (c .if1 .taken)
 
--- src/lib.rt:295:9
-returns-2 : tie.Need-returns-2
-unfolding edge-at E-from E-to E-transfer kind-byte size body edge-ranges unless first-fault answered
-returns-2 c =
-    answered-by-its-own _ _ E (c .before .before .before .opening-fault .ensures .0) _ _ (c .before .before .if1 .left)
-    (simp (le-ltb _ _ (c .if2 .taken)))
+-- The record is whole.
+whole : (c : tie.Else1) → let a = c .before .before .before .args in a .c .at + 5 ≤ length (a .s .now)
+whole c = c .before .opening-fault .ensures .1 (c .if1 .left)
 
--- src/lib.rt:297:9
-field-requires : tie.Need-field-requires
-field-requires c κs = omega (arith, c .before .before .before .opening-fault .ensures .1 (c .before .before .if1 .left))
+-- src/lib.rt:296:9
+returns-2 : tie.Need-returns-2
+unfolding edge-at unless first-fault answered kind-byte size body
+returns-2 c =
+    let opened = c .before .before in
+    answered-by-its-own _ _ E (opened .before .opening-fault .ensures .0) _ _ (opened .if1 .left) (simp (le-ltb _ _ (c .if2 .taken)))
 
 -- src/lib.rt:298:9
-field-requires-2 : tie.Need-field-requires-2
-field-requires-2 c κs = omega (arith, c .before .before .before .before .opening-fault .ensures .1 (c .before .before .before .if1 .left))
+field-requires : tie.Need-field-requires
+field-requires c κs = omega (arith, whole (c .before .before))
 
 -- src/lib.rt:299:9
-two-bytes-requires : tie.Need-two-bytes-requires
-two-bytes-requires c κs =
-    let opening-fault = c .before .before .before .before .before .opening-fault in
-    let if1 = c .before .before .before .before .if1 in
-    omega (arith, opening-fault .ensures .1 (if1 .left))
+field-requires-2 : tie.Need-field-requires-2
+field-requires-2 c κs = omega (arith, whole (c .before .before .before))
 
 -- src/lib.rt:300:9
+two-bytes-requires : tie.Need-two-bytes-requires
+two-bytes-requires c κs = omega (arith, whole (c .before .before .before .before))
+
+-- src/lib.rt:301:9
 order-fault-requires : tie.Need-order-fault-requires
 order-fault-requires c κs = search needs
 
--- src/lib.rt:301:9
+-- src/lib.rt:302:9
 range-fault-requires : tie.Need-range-fault-requires
 range-fault-requires c κs = search needs
 
--- src/lib.rt:303:9
+-- The check for room holds.
+room : (c : tie.Else2) → unless (ltb (c .before .before .before .before .before .args .before .count) 512) 4 ≡ 0
+unfolding unless
+room c = rw (lt-ltb _ _ (c .if2 .left))
+
+-- The order found is that of the ends in the record.
+order : (c : tie.After-order-fault) →
+    let a = c .before .before .before .before .before .before .before .before .before .args in
+    c .order-fault .result ≡ unless (rising (meant-edges (a .before)) (E-from (a .s .now) (a .c .at)) (E-to (a .s .now) (a .c .at))) 3
+unfolding E-from E-to
+order c = rw (c .before .before .before .field .ensures .0, c .before .before .field2 .ensures .0) at (c .order-fault .ensures)
+
+-- src/lib.rt:304:9
 returns-3 : tie.Need-returns-3
-unfolding edge-at E-from E-to E-transfer kind-byte size body edge-ranges unless
+unfolding edge-at kind-byte size body
 returns-3 c =
-    let a = c .before .before .before .before .before .before .before .before .before .before .before .args in
-    let opening-fault = c .before .before .before .before .before .before .before .before .before .opening-fault in
-    let if1 = c .before .before .before .before .before .before .before .before .if1 in
-    let if2 = c .before .before .before .before .before .before .if2 in
-    let field = c .before .before .before .before .before .field in
-    let field2 = c .before .before .before .before .field2 in
-    let order-fault = c .before .before .order-fault in
-    let few : unless (ltb (a .before .count) 512) 4 ≡ 0 = rw (lt-ltb _ _ (if2 .left)) in
-    let order = rw (field .ensures .0, field2 .ensures .0) at (order-fault .ensures) in
-    answered-by-its-own _ _ E (opening-fault .ensures .0) _ _ (if1 .left)
-    (answers-refusal _ _ _ (order ∙ fault-here _ _ (λ none. c .if3 .taken (order ∙ none)) ∙ fault-later _ _ few) (c .if3 .taken))
+    let ordered = c .before .before in
+    let few = ordered .before .before .before .before in
+    let opened = few .before .before in
+    let same = order ordered in
+    answered-by-its-own _ _ E (opened .before .opening-fault .ensures .0) _ _ (opened .if1 .left)
+    (answers-refusal _ _ _ (same ∙ fault-here _ _ (λ none. c .if3 .taken (same ∙ none)) ∙ fault-later _ _ (room few)) (c .if3 .taken))
 
--- src/lib.rt:306:9
+-- With room, and in order, the ranges decide.
+by-range : (c : tie.Else3) →
+    let fields = c .before .before .before in
+    let a = fields .before .before .before .before .before .before .before .before .args in
+    answered (c .before .range-fault .result) (a .c .at) (a .c .at + 5)
+    (edge (fields .before .before .field .result) (fields .before .field2 .result) (fields .two-bytes .result)) ≡
+    edge-at (a .s .now) (a .c .at) (a .n) (meant-edges (a .before))
+unfolding edge-at E-from E-to E-transfer kind-byte size body
+by-range c =
+    let ordered = c .before .before in
+    let fields = ordered .before in
+    let few = fields .before .before .before in
+    let opened = few .before .before in
+    let from = fields .before .before .field .ensures .0 in
+    let to = fields .before .field2 .ensures .0 in
+    let transfer = fields .two-bytes .ensures .0 in
+    let range = rw (from, to, transfer) at (c .before .range-fault .ensures) in
+    answered-by-its-own _ _ E (opened .before .opening-fault .ensures .0) _ _ (opened .if1 .left)
+    (rw (range ∙ fault-later _ _ (sym (order ordered) ∙ c .if3 .left) ∙ fault-later _ _ (room few), from, to, transfer))
+
+-- src/lib.rt:307:9
 returns-4 : tie.Need-returns-4
-unfolding edge-at E-from E-to E-transfer kind-byte size body edge-ranges unless
-returns-4 c =
-    let c₈ = c .before .before .before .before .before .before .before .before in
-    let a = c₈ .before .before .before .before .args in
-    let opening-fault = c₈ .before .before .opening-fault in
-    let if1 = c₈ .before .if1 in
-    let if2 = c .before .before .before .before .before .before .before .if2 in
-    let field = c .before .before .before .before .before .before .field in
-    let field2 = c .before .before .before .before .before .field2 in
-    let two-bytes = c .before .before .before .before .two-bytes in
-    let order-fault = c .before .before .before .order-fault in
-    let range-fault = c .before .before .range-fault in
-    let few : unless (ltb (a .before .count) 512) 4 ≡ 0 = rw (lt-ltb _ _ (if2 .left)) in
-    let order = rw (field .ensures .0, field2 .ensures .0) at (order-fault .ensures) in
-    let range = rw (field .ensures .0, field2 .ensures .0, two-bytes .ensures .0) at (range-fault .ensures) in
-    answered-by-its-own _ _ E (opening-fault .ensures .0) _ _ (if1 .left)
-    (answers-refusal _ _ _ (range ∙ fault-later _ _ (sym order ∙ c .before .if3 .left) ∙ fault-later _ _ few) (c .if4 .taken))
+returns-4 c = answers-refusal _ _ _ refl (c .if4 .taken) ∙ by-range (c .before)
 
--- src/lib.rt:308:37
+-- src/lib.rt:309:37
 add-t13 : tie.Need-add-t13
-add-t13 c =
-    let opening-fault = c .before .before .before .before .before .before .before .before .before .before .opening-fault in
-    let if1 = c .before .before .before .before .before .before .before .before .before .if1 in
-    omega (arith, opening-fault .ensures .1 (if1 .left))
+add-t13 c = omega (arith, whole (c .before .before .before .before .before .before .before .before .before))
 
--- src/lib.rt:286:1
+-- src/lib.rt:287:1
 returns-5 : tie.Need-returns-5
-unfolding edge-at E-from E-to E-transfer kind-byte size body edge-ranges unless
-returns-5 c =
-    let c₈ = c .before .before .before .before .before .before .before .before in
-    let a = c₈ .before .before .before .before .args in
-    let opening-fault = c₈ .before .before .opening-fault in
-    let if1 = c₈ .before .if1 in
-    let if2 = c .before .before .before .before .before .before .before .if2 in
-    let field = c .before .before .before .before .before .before .field in
-    let field2 = c .before .before .before .before .before .field2 in
-    let two-bytes = c .before .before .before .before .two-bytes in
-    let order-fault = c .before .before .before .order-fault in
-    let range-fault = c .before .before .range-fault in
-    let few : unless (ltb (a .before .count) 512) 4 ≡ 0 = rw (lt-ltb _ _ (if2 .left)) in
-    let order = rw (field .ensures .0, field2 .ensures .0) at (order-fault .ensures) in
-    let range = rw (field .ensures .0, field2 .ensures .0, two-bytes .ensures .0) at (range-fault .ensures) in
-    answered-by-its-own _ _ E (opening-fault .ensures .0) _ _ (if1 .left)
-    (answers-record _ _ (sym (fault-later _ _ (sym order ∙ c .before .if3 .left) ∙ fault-later _ _ few) ∙ sym range ∙
-    c .if4 .left) (rw (field .ensures .0, field2 .ensures .0, two-bytes .ensures .0)))
+returns-5 c = answers-record _ _ (c .if4 .left) refl ∙ by-range (c .before)
 
 pub read-edge-spec : {M : Type 1} → statement M
 read-edge-spec =

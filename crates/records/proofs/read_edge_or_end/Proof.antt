@@ -4,7 +4,7 @@ use Prim.Native.Nat.{_+_, _≤_}
 use lib.ListN.{length}
 use borrow.Author.Tests.{ne-eqb, lt-ltb, le-leb}
 use Rattle.records.proofs.Laws.{byte-there}
-use Rattle.rules.specs.Records.{unless, first-fault, opening, answered, record-at, end-at}
+use Rattle.rules.specs.Records.{unless, first-fault, opening-by, opening, answered, record-at, end-at}
 use Rattle.rules.specs.Fields.{kind-byte, body, size}
 use Rattle.records.specs.Meaning.{edge-or-end-at}
 use native.Mathlib.Omega.{arith}
@@ -16,19 +16,19 @@ use Rattle.records.proofs.read_edge_or_end.Lts as lts
 use Rattle.records.proofs.kind.Reads as kind-reads
 use Rattle.records.proofs.read_edge.Reads as read-edge-reads
 
--- src/lib.rt:310:8
+-- src/lib.rt:317:8
 kind-requires : tie.Need-kind-requires
 kind-requires c κs = search needs
 
--- src/lib.rt:311:48
+-- src/lib.rt:318:48
 add-t8 : tie.Need-add-t8
 add-t8 c =
     let a = c .before .before .before .args in
     omega (arith, byte-there (a .s .now) (a .c .at) (sym (c .before .kind .ensures) ∙ c .if1 .taken))
 
--- src/lib.rt:311:9
+-- src/lib.rt:318:9
 returns : tie.Need-returns
-unfolding edge-or-end-at end-at record-at opening answered first-fault unless kind-byte size body
+unfolding edge-or-end-at end-at record-at opening opening-by answered first-fault unless kind-byte size body
 returns c =
     let a = c .before .before .before .args in
     let kind = c .before .kind in
@@ -36,11 +36,11 @@ returns c =
     let whole : a .c .at + 1 ≤ length (a .s .now) = omega (arith, there) in
     simp (← kind .ensures, c .if1 .taken, lt-ltb _ _ there, le-leb _ _ whole)
 
--- src/lib.rt:313:5
+-- src/lib.rt:320:5
 read-edge-requires : tie.Need-read-edge-requires
 read-edge-requires c κs = search needs
 
--- src/lib.rt:306:1
+-- src/lib.rt:313:1
 returns-2 : tie.Need-returns-2
 unfolding edge-or-end-at kind-byte
 returns-2 c = rw (← c .before .before .kind .ensures, ne-eqb _ _ (c .before .if1 .left)) (c .read-edge .ensures)

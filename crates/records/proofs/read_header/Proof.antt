@@ -1,7 +1,11 @@
 -- The opening answers, or else the checks of `H`: each return is the first that fails, or none.
+use mathlib.Core.Path.{_≡_}
+use Prim.Native.Nat.{_+_, _≤_}
+use mathlib.Core.Bool.{not}
+use lib.ListN.{length}
 use Rattle.rules.specs.Fields.{H, kind-byte, body, size, H-tasks, H-processors, H-budget}
-use Rattle.rules.specs.Records.{unless, first-fault, answered, header-at}
-use Rattle.records.proofs.Laws.{refused-at-opening, answered-by-its-own}
+use Rattle.rules.specs.Records.{unless, first-fault, answered, header, header-at}
+use Rattle.records.proofs.Laws.{refused-at-opening, answered-by-its-own, last-check}
 use native.Mathlib.Omega.{arith}
 use borrow.Author.Needs.{needs}
 use Rattle.records.proofs.read_header.Statement.{statement}
@@ -22,17 +26,21 @@ returns : tie.Need-returns
 unfolding header-at kind-byte size body
 returns c = refused-at-opening _ _ H (c .before .opening-fault .ensures .0) _ _ (c .if1 .taken)
 
+-- The record is whole.
+whole : (c : tie.Else1) → let a = c .before .before .before .args in a .c .at + 7 ≤ length (a .s .now)
+whole c = c .before .opening-fault .ensures .1 (c .if1 .left)
+
 -- src/lib.rt:138:9
 field-requires : tie.Need-field-requires
-field-requires c κs = omega (arith, c .before .opening-fault .ensures .1 (c .if1 .left))
+field-requires c κs = omega (arith, whole c)
 
 -- src/lib.rt:139:9
 field-requires-2 : tie.Need-field-requires-2
-field-requires-2 c κs = omega (arith, c .before .before .opening-fault .ensures .1 (c .before .if1 .left))
+field-requires-2 c κs = omega (arith, whole (c .before))
 
 -- src/lib.rt:140:9
 four-bytes-requires : tie.Need-four-bytes-requires
-four-bytes-requires c κs = omega (arith, c .before .before .before .opening-fault .ensures .1 (c .before .before .if1 .left))
+four-bytes-requires c κs = omega (arith, whole (c .before .before))
 
 -- src/lib.rt:141:8
 outside-requires : tie.Need-outside-requires
@@ -40,16 +48,11 @@ outside-requires c κs = search needs
 
 -- src/lib.rt:142:9
 returns-2 : tie.Need-returns-2
-unfolding header-at H-tasks H-processors H-budget unless first-fault answered kind-byte size body
+unfolding header-at H-tasks unless first-fault answered kind-byte size body
 returns-2 c =
-    let opening-fault = c .before .before .before .before .before .before .opening-fault in
-    let if1 = c .before .before .before .before .before .if1 in
-    let field = c .before .before .before .before .field in
-    let field2 = c .before .before .before .field2 in
-    let four-bytes = c .before .before .four-bytes in
-    let outside = c .before .outside in
-    answered-by-its-own _ _ H (opening-fault .ensures .0) _ _ (if1 .left)
-    (simp (← field .ensures .0, ← field2 .ensures .0, ← four-bytes .ensures, outside .ensures, c .if2 .taken))
+    let opened = c .before .before .before .before .before in
+    answered-by-its-own _ _ H (opened .before .opening-fault .ensures .0) _ _ (opened .if1 .left)
+    (simp (← c .before .before .before .before .field .ensures .0, c .before .outside .ensures, c .if2 .taken))
 
 -- src/lib.rt:144:8
 outside-requires-2 : tie.Need-outside-requires-2
@@ -57,83 +60,63 @@ outside-requires-2 c κs = search needs
 
 -- src/lib.rt:145:9
 returns-3 : tie.Need-returns-3
-unfolding header-at H-tasks H-processors H-budget unless first-fault answered kind-byte size body
+unfolding header-at H-tasks H-processors unless first-fault answered kind-byte size body
 returns-3 c =
-    let opening-fault = c .before .before .before .before .before .before .before .before .opening-fault in
-    let if1 = c .before .before .before .before .before .before .before .if1 in
-    let field = c .before .before .before .before .before .before .field in
-    let field2 = c .before .before .before .before .before .field2 in
-    let four-bytes = c .before .before .before .before .four-bytes in
-    let outside = c .before .before .before .outside in
-    let if2 = c .before .before .if2 in
-    let outside2 = c .before .outside2 in
-    answered-by-its-own _ _ H (opening-fault .ensures .0) _ _ (if1 .left)
-    (simp (← field .ensures .0, ← field2 .ensures .0, ← four-bytes .ensures, outside .ensures, if2 .left, outside2 .ensures, c .if3 .taken))
+    let in-range = c .before .before in
+    let fields = in-range .before .before in
+    let opened = fields .before .before .before in
+    answered-by-its-own _ _ H (opened .before .opening-fault .ensures .0) _ _ (opened .if1 .left)
+    (simp (
+      ← fields .before .before .field .ensures .0,
+      ← fields .before .field2 .ensures .0,
+      in-range .before .outside .ensures,
+      in-range .if2 .left,
+      c .before .outside2 .ensures,
+      c .if3 .taken,
+    ))
 
 -- src/lib.rt:147:8
 outside-requires-3 : tie.Need-outside-requires-3
 outside-requires-3 c κs = search needs
 
+-- With tasks and processors in range, the budget decides.
+by-budget : (c : tie.After-outside3) →
+    let fields = c .before .before .before .before .before in
+    let a = fields .before .before .before .before .before .before .args in
+    answered (unless (not (c .outside3 .result)) 4) (a .c .at) (a .c .at + 7)
+    (header (fields .before .before .field .result) (fields .before .field2 .result) (fields .four-bytes .result)) ≡
+    header-at (a .s .now) (a .c .at)
+unfolding header-at H-tasks H-processors H-budget unless first-fault kind-byte size body
+by-budget c =
+    let in-range = c .before .before .before in
+    let fields = in-range .before .before in
+    let opened = fields .before .before .before in
+    answered-by-its-own _ _ H (opened .before .opening-fault .ensures .0) _ _ (opened .if1 .left)
+    (simp (
+      ← fields .before .before .field .ensures .0,
+      ← fields .before .field2 .ensures .0,
+      ← fields .four-bytes .ensures,
+      in-range .before .outside .ensures,
+      in-range .if2 .left,
+      c .before .before .outside2 .ensures,
+      c .before .if3 .left,
+      c .outside3 .ensures,
+    )
+    (last-check _ _ _ _))
+
 -- src/lib.rt:148:9
 returns-4 : tie.Need-returns-4
-unfolding header-at H-tasks H-processors H-budget unless first-fault answered kind-byte size body
-returns-4 c =
-    let opening-fault = c .before .before .before .before .before .before .before .before .before .before .opening-fault in
-    let if1 = c .before .before .before .before .before .before .before .before .before .if1 in
-    let field = c .before .before .before .before .before .before .before .before .field in
-    let field2 = c .before .before .before .before .before .before .before .field2 in
-    let four-bytes = c .before .before .before .before .before .before .four-bytes in
-    let outside = c .before .before .before .before .before .outside in
-    let if2 = c .before .before .before .before .if2 in
-    let outside2 = c .before .before .before .outside2 in
-    let if3 = c .before .before .if3 in
-    let outside3 = c .before .outside3 in
-    answered-by-its-own _ _ H (opening-fault .ensures .0) _ _ (if1 .left)
-    (simp (
-      ← field .ensures .0,
-      ← field2 .ensures .0,
-      ← four-bytes .ensures,
-      outside .ensures,
-      if2 .left,
-      outside2 .ensures,
-      if3 .left,
-      outside3 .ensures,
-      c .if4 .taken,
-    ))
+unfolding unless answered
+returns-4 c = rw (c .if4 .taken) at (by-budget (c .before))
 
 -- src/lib.rt:151:22
 add-t13 : tie.Need-add-t13
-add-t13 c =
-    let opening-fault = c .before .before .before .before .before .before .before .before .before .before .opening-fault in
-    let if1 = c .before .before .before .before .before .before .before .before .before .if1 in
-    omega (arith, opening-fault .ensures .1 (if1 .left))
+add-t13 c = omega (arith, whole (c .before .before .before .before .before .before .before .before .before))
 
 -- src/lib.rt:130:1
 returns-5 : tie.Need-returns-5
-unfolding header-at H-tasks H-processors H-budget unless first-fault answered kind-byte size body
-returns-5 c =
-    let opening-fault = c .before .before .before .before .before .before .before .before .before .before .opening-fault in
-    let if1 = c .before .before .before .before .before .before .before .before .before .if1 in
-    let field = c .before .before .before .before .before .before .before .before .field in
-    let field2 = c .before .before .before .before .before .before .before .field2 in
-    let four-bytes = c .before .before .before .before .before .before .four-bytes in
-    let outside = c .before .before .before .before .before .outside in
-    let if2 = c .before .before .before .before .if2 in
-    let outside2 = c .before .before .before .outside2 in
-    let if3 = c .before .before .if3 in
-    let outside3 = c .before .outside3 in
-    answered-by-its-own _ _ H (opening-fault .ensures .0) _ _ (if1 .left)
-    (simp (
-      ← field .ensures .0,
-      ← field2 .ensures .0,
-      ← four-bytes .ensures,
-      outside .ensures,
-      if2 .left,
-      outside2 .ensures,
-      if3 .left,
-      outside3 .ensures,
-      c .if4 .left,
-    ))
+unfolding unless answered
+returns-5 c = rw (c .if4 .left) at (by-budget (c .before))
 
 pub read-header-spec : {M : Type 1} → statement M
 read-header-spec =

@@ -1,8 +1,12 @@
 -- The opening answers, or else the checks of `W`: each return is the first that fails, or none.
+use mathlib.Core.Path.{_≡_}
+use Prim.Native.Nat.{_+_, _≤_}
+use mathlib.Core.Bool.{not}
+use lib.ListN.{length}
 use borrow.Author.Tests.{eq-eqb, ne-eqb}
 use Rattle.rules.specs.Fields.{W, kind-byte, body, size, W-task, W-processor, W-minutes}
-use Rattle.rules.specs.Records.{unless, first-fault, answered, minutes-at}
-use Rattle.records.proofs.Laws.{refused-at-opening, answered-by-its-own}
+use Rattle.rules.specs.Records.{unless, first-fault, answered, minutes, minutes-at}
+use Rattle.records.proofs.Laws.{refused-at-opening, answered-by-its-own, last-check}
 use native.Mathlib.Omega.{arith}
 use borrow.Author.Needs.{needs}
 use Rattle.records.proofs.read_minutes.Statement.{statement}
@@ -23,94 +27,83 @@ returns : tie.Need-returns
 unfolding minutes-at kind-byte size body
 returns c = refused-at-opening _ _ W (c .before .opening-fault .ensures .0) _ _ (c .if1 .taken)
 
+-- The record is whole.
+whole : (c : tie.Else1) → let a = c .before .before .before .args in a .c .at + 5 ≤ length (a .s .now)
+whole c = c .before .opening-fault .ensures .1 (c .if1 .left)
+
 -- src/lib.rt:226:9
 field-requires : tie.Need-field-requires
-field-requires c κs = omega (arith, c .before .opening-fault .ensures .1 (c .if1 .left))
+field-requires c κs = omega (arith, whole c)
 
 -- src/lib.rt:227:9
 field-requires-2 : tie.Need-field-requires-2
-field-requires-2 c κs = omega (arith, c .before .before .opening-fault .ensures .1 (c .before .if1 .left))
+field-requires-2 c κs = omega (arith, whole (c .before))
 
 -- src/lib.rt:228:9
 two-bytes-requires : tie.Need-two-bytes-requires
-two-bytes-requires c κs = omega (arith, c .before .before .before .opening-fault .ensures .1 (c .before .before .if1 .left))
+two-bytes-requires c κs = omega (arith, whole (c .before .before))
 
 -- src/lib.rt:230:9
 returns-2 : tie.Need-returns-2
-unfolding minutes-at W-task W-processor W-minutes unless first-fault answered kind-byte size body
+unfolding minutes-at W-task unless first-fault answered kind-byte size body
 returns-2 c =
-    let opening-fault = c .before .before .before .before .before .opening-fault in
-    let if1 = c .before .before .before .before .if1 in
-    let field = c .before .before .before .field in
-    answered-by-its-own _ _ W (opening-fault .ensures .0) _ _ (if1 .left) (simp (← field .ensures .0, ne-eqb _ _ (c .if2 .taken)))
+    let opened = c .before .before .before .before in
+    answered-by-its-own _ _ W (opened .before .opening-fault .ensures .0) _ _ (opened .if1 .left)
+    (simp (← c .before .before .before .field .ensures .0, ne-eqb _ _ (c .if2 .taken)))
 
 -- src/lib.rt:233:9
 returns-3 : tie.Need-returns-3
-unfolding minutes-at W-task W-processor W-minutes unless first-fault answered kind-byte size body
+unfolding minutes-at W-task W-processor unless first-fault answered kind-byte size body
 returns-3 c =
-    let opening-fault = c .before .before .before .before .before .before .opening-fault in
-    let if1 = c .before .before .before .before .before .if1 in
-    let field = c .before .before .before .before .field in
-    let field2 = c .before .before .before .field2 in
-    answered-by-its-own _ _ W (opening-fault .ensures .0) _ _ (if1 .left)
-    (simp (← field .ensures .0, ← field2 .ensures .0, eq-eqb _ _ (c .before .if2 .left), ne-eqb _ _ (c .if3 .taken)))
+    let fields = c .before .before in
+    let opened = fields .before .before .before in
+    answered-by-its-own _ _ W (opened .before .opening-fault .ensures .0) _ _ (opened .if1 .left)
+    (simp (
+      ← fields .before .before .field .ensures .0,
+      ← fields .before .field2 .ensures .0,
+      eq-eqb _ _ (c .before .if2 .left),
+      ne-eqb _ _ (c .if3 .taken),
+    ))
 
 -- src/lib.rt:235:8
 outside-requires : tie.Need-outside-requires
 outside-requires c κs = search needs
 
+-- Of the task and the processor that are due, the minutes decide.
+by-minutes : (c : tie.After-outside) →
+    let fields = c .before .before .before in
+    let a = fields .before .before .before .before .before .before .args in
+    answered (unless (not (c .outside .result)) 4) (a .c .at) (a .c .at + 5)
+    (minutes (fields .before .before .field .result) (fields .before .field2 .result) (fields .two-bytes .result)) ≡
+    minutes-at (a .s .now) (a .c .at) (a .due-task) (a .due-processor)
+unfolding minutes-at W-task W-processor W-minutes unless first-fault kind-byte size body
+by-minutes c =
+    let fields = c .before .before .before in
+    let opened = fields .before .before .before in
+    answered-by-its-own _ _ W (opened .before .opening-fault .ensures .0) _ _ (opened .if1 .left)
+    (simp (
+      ← fields .before .before .field .ensures .0,
+      ← fields .before .field2 .ensures .0,
+      ← fields .two-bytes .ensures .0,
+      eq-eqb _ _ (c .before .before .if2 .left),
+      eq-eqb _ _ (c .before .if3 .left),
+      c .outside .ensures,
+    )
+    (last-check _ _ _ _))
+
 -- src/lib.rt:236:9
 returns-4 : tie.Need-returns-4
-unfolding minutes-at W-task W-processor W-minutes unless first-fault answered kind-byte size body
-returns-4 c =
-    let opening-fault = c .before .before .before .before .before .before .before .before .opening-fault in
-    let if1 = c .before .before .before .before .before .before .before .if1 in
-    let field = c .before .before .before .before .before .before .field in
-    let field2 = c .before .before .before .before .before .field2 in
-    let two-bytes = c .before .before .before .before .two-bytes in
-    let if2 = c .before .before .before .if2 in
-    let if3 = c .before .before .if3 in
-    let outside = c .before .outside in
-    answered-by-its-own _ _ W (opening-fault .ensures .0) _ _ (if1 .left)
-    (simp (
-      ← field .ensures .0,
-      ← field2 .ensures .0,
-      ← two-bytes .ensures .0,
-      eq-eqb _ _ (if2 .left),
-      eq-eqb _ _ (if3 .left),
-      outside .ensures,
-      c .if4 .taken,
-    ))
+unfolding unless answered
+returns-4 c = rw (c .if4 .taken) at (by-minutes (c .before))
 
 -- src/lib.rt:239:22
 add-t12 : tie.Need-add-t12
-add-t12 c =
-    let opening-fault = c .before .before .before .before .before .before .before .before .opening-fault in
-    let if1 = c .before .before .before .before .before .before .before .if1 in
-    omega (arith, opening-fault .ensures .1 (if1 .left))
+add-t12 c = omega (arith, whole (c .before .before .before .before .before .before .before))
 
 -- src/lib.rt:218:1
 returns-5 : tie.Need-returns-5
-unfolding minutes-at W-task W-processor W-minutes unless first-fault answered kind-byte size body
-returns-5 c =
-    let opening-fault = c .before .before .before .before .before .before .before .before .opening-fault in
-    let if1 = c .before .before .before .before .before .before .before .if1 in
-    let field = c .before .before .before .before .before .before .field in
-    let field2 = c .before .before .before .before .before .field2 in
-    let two-bytes = c .before .before .before .before .two-bytes in
-    let if2 = c .before .before .before .if2 in
-    let if3 = c .before .before .if3 in
-    let outside = c .before .outside in
-    answered-by-its-own _ _ W (opening-fault .ensures .0) _ _ (if1 .left)
-    (simp (
-      ← field .ensures .0,
-      ← field2 .ensures .0,
-      ← two-bytes .ensures .0,
-      eq-eqb _ _ (if2 .left),
-      eq-eqb _ _ (if3 .left),
-      outside .ensures,
-      c .if4 .left,
-    ))
+unfolding unless answered
+returns-5 c = rw (c .if4 .left) at (by-minutes (c .before))
 
 pub read-minutes-spec : {M : Type 1} → statement M
 read-minutes-spec =

@@ -1,9 +1,11 @@
 -- The opening answers, or else the checks of `T`, the last of which is crate `label`'s.
+use Prim.Native.Nat.{_+_, _≤_}
+use lib.ListN.{length}
 use borrow.Author.Tests.{eq-eqb, ne-eqb}
 use Rattle.rules.specs.Fields.{T, kind-byte, body, size, T-task, T-label}
-use Rattle.rules.specs.Records.{unless, first-fault, answered, task-at}
-use Rattle.records.proofs.Laws.{refused-at-opening, answered-by-its-own}
-use mathlib.Core.Path.{sym}
+use Rattle.rules.specs.Records.{unless, first-fault, answered, task, task-at}
+use Rattle.records.proofs.Laws.{refused-at-opening, answered-by-its-own, last-check}
+use mathlib.Core.Path.{_≡_, sym}
 use Rattle.label.specs.Laws.{told-is-one-or-more}
 use native.Mathlib.Omega.{arith}
 use borrow.Author.Needs.{needs}
@@ -24,21 +26,25 @@ returns : tie.Need-returns
 unfolding task-at kind-byte size body
 returns c = refused-at-opening _ _ T (c .before .opening-fault .ensures .0) _ _ (c .if1 .taken)
 
+-- The record is whole.
+whole : (c : tie.Else1) → let a = c .before .before .before .args in a .c .at + 10 ≤ length (a .s .now)
+whole c = c .before .opening-fault .ensures .1 (c .if1 .left)
+
 -- src/lib.rt:205:9
 field-requires : tie.Need-field-requires
-field-requires c κs = omega (arith, c .before .opening-fault .ensures .1 (c .if1 .left))
+field-requires c κs = omega (arith, whole c)
 
 -- src/lib.rt:207:9
 returns-2 : tie.Need-returns-2
-unfolding task-at T-task T-label unless first-fault answered kind-byte size body
+unfolding task-at T-task unless first-fault answered kind-byte size body
 returns-2 c =
-    let opening-fault = c .before .before .before .opening-fault in
-    let if1 = c .before .before .if1 in
-    answered-by-its-own _ _ T (opening-fault .ensures .0) _ _ (if1 .left) (simp (← c .before .field .ensures .0, ne-eqb _ _ (c .if2 .taken)))
+    let opened = c .before .before in
+    answered-by-its-own _ _ T (opened .before .opening-fault .ensures .0) _ _ (opened .if1 .left)
+    (simp (← c .before .field .ensures .0, ne-eqb _ _ (c .if2 .taken)))
 
 -- src/lib.rt:209:17
 add-label : tie.Need-add-label
-add-label c = omega (arith, c .before .before .before .opening-fault .ensures .1 (c .before .before .if1 .left))
+add-label c = omega (arith, whole (c .before .before))
 
 -- src/lib.rt:210:8
 is-label-requires : tie.Need-is-label-requires
@@ -46,34 +52,30 @@ is-label-requires c κs = search needs
 
 -- src/lib.rt:211:41
 add-t11 : tie.Need-add-t11
-add-t11 c =
-    let opening-fault = c .before .before .before .before .before .opening-fault in
-    let if1 = c .before .before .before .before .if1 in
-    omega (arith, opening-fault .ensures .1 (if1 .left))
+add-t11 c = omega (arith, whole (c .before .before .before .before))
+
+-- Of the task that is due, the label decides.
+by-label : (c : tie.After-is-label) →
+    let field = c .before .before .field in
+    let a = c .before .before .before .before .before .before .args in
+    answered (unless (c .is-label .result) 5) (a .c .at) (a .c .at + 10) (task (field .result) (a .c .at + 2)) ≡
+    task-at (a .s .now) (a .c .at) (a .due)
+unfolding task-at T-task T-label unless first-fault kind-byte size body
+by-label c =
+    let field = c .before .before .field in
+    let opened = c .before .before .before in
+    answered-by-its-own _ _ T (opened .before .opening-fault .ensures .0) _ _ (opened .if1 .left)
+    (simp (← field .ensures .0, eq-eqb _ _ (c .before .if2 .left), sym (told-is-one-or-more (c .is-label .ensures))) (last-check _ _ _ _))
 
 -- src/lib.rt:197:1
 returns-3 : tie.Need-returns-3
-unfolding task-at T-task T-label unless first-fault answered kind-byte size body
-returns-3 c =
-    let opening-fault = c .before .before .before .before .before .opening-fault in
-    let if1 = c .before .before .before .before .if1 in
-    let field = c .before .before .before .field in
-    let if2 = c .before .before .if2 in
-    let is-label = c .before .is-label in
-    answered-by-its-own _ _ T (opening-fault .ensures .0) _ _ (if1 .left)
-    (simp (← field .ensures .0, eq-eqb _ _ (if2 .left), sym (told-is-one-or-more (is-label .ensures)), c .if3 .taken))
+unfolding unless answered
+returns-3 c = rw (c .if3 .taken) at (by-label (c .before))
 
 -- src/lib.rt:197:1
 returns-4 : tie.Need-returns-4
-unfolding task-at T-task T-label unless first-fault answered kind-byte size body
-returns-4 c =
-    let opening-fault = c .before .before .before .before .before .opening-fault in
-    let if1 = c .before .before .before .before .if1 in
-    let field = c .before .before .before .field in
-    let if2 = c .before .before .if2 in
-    let is-label = c .before .is-label in
-    answered-by-its-own _ _ T (opening-fault .ensures .0) _ _ (if1 .left)
-    (simp (← field .ensures .0, eq-eqb _ _ (if2 .left), sym (told-is-one-or-more (is-label .ensures)), c .if3 .left))
+unfolding unless answered
+returns-4 c = rw (c .if3 .left) at (by-label (c .before))
 
 pub read-task-spec : {M : Type 1} → statement M
 read-task-spec =

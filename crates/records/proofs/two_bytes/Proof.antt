@@ -10,27 +10,27 @@ use Rattle.records.proofs.two_bytes.Reads as reads
 use Rattle.records.proofs.two_bytes.Lts as lts
 use Rattle.records.proofs.field.Reads as field-reads
 
--- src/lib.rt:78:15
+-- src/lib.rt:79:15
 field-requires : tie.Need-field-requires
 field-requires c κs = search needs
 
--- src/lib.rt:79:25
+-- src/lib.rt:80:25
 add-field : tie.Need-add-field
 add-field c = search needs
 
--- src/lib.rt:79:16
+-- src/lib.rt:80:16
 field-requires-2 : tie.Need-field-requires-2
 field-requires-2 c κs = search needs
 
--- src/lib.rt:80:11
+-- src/lib.rt:81:11
 mul-result : tie.Need-mul-result
 mul-result c = search needs
 
--- src/lib.rt:80:5
+-- src/lib.rt:81:5
 add-result : tie.Need-add-result
 add-result c = search needs
 
--- src/lib.rt:74:1
+-- src/lib.rt:75:1
 returns : tie.Need-returns
 unfolding two-bytes byte
 returns c =
