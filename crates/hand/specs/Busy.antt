@@ -2,7 +2,7 @@
 use Prim.Native.Nat.{ℕ}
 use mathlib.Core.List.{List, [], _∷_}
 use Rattle.rules.specs.Start.{Interval}
-use Rattle.hand.specs.Filled.{at}
+use Rattle.laws.specs.Stores.{at}
 
 -- As if processor j were busy from minute 0 on, up to the latest finish on it: no task starts before that.
 unfoldable pub kept-busy : List ℕ → ℕ → List Interval

@@ -2,10 +2,8 @@
 use Prim.Native.Nat.{ℕ, _≤_, _<_}
 use mathlib.Core.Path.{_≡_}
 use mathlib.Core.List.{List}
-use lib.ListN.{length, getD}
-
-abbrev pub at : List ℕ → ℕ → ℕ
-at xs k = getD xs k 0
+use lib.ListN.{length}
+use Rattle.laws.specs.Stores.{at}
 
 -- No number of the array is above b.
 abbrev pub AtMost : ℕ → List ℕ → Type 0

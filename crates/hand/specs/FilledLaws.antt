@@ -6,8 +6,8 @@ use native.Mathlib.Decide.{decLe}
 use native.Mathlib.Omega.{arith}
 use lib.ListN.{set, replicate, length-set}
 use lib.Seq.{getD-set-other}
-use Rattle.laws.specs.Stores.{stored-below, repeated}
-use Rattle.hand.specs.Filled.{at, AtMost, Filled}
+use Rattle.laws.specs.Stores.{stored-below, repeated, at}
+use Rattle.hand.specs.Filled.{AtMost, Filled}
 
 -- A store leaves what is past it.
 pub stored-past : (xs : List ℕ) (i x k : ℕ) → i + 1 ≤ k → at (set xs i x) k ≡ at xs k

@@ -9,7 +9,7 @@ use Rattle.rules.specs.Workflow.{Workflow}
 use Rattle.rules.specs.Ranks.{cost}
 use Rattle.rules.specs.Start.{Interval, start-on}
 use Rattle.rules.specs.Method.{Question, Choice, take, nothing}
-use Rattle.hand.specs.Filled.{at}
+use Rattle.laws.specs.Stores.{at}
 use Rattle.hand.specs.declared.Hand.{Hand}
 use Rattle.hand.specs.declared.Hand.the-variants as hand
 

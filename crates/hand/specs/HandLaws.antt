@@ -15,7 +15,8 @@ use Rattle.laws.specs.Method.{HBCS-same, HBCS-takes-processor}
 use Rattle.choosing.specs.declared.Choice.{Choice}
 use Rattle.choosing.specs.declared.Choice.the-variants.{Take, Nothing}
 use Rattle.choosing.specs.Asked.{asked, InRange, meant-choice}
-use Rattle.hand.specs.Filled.{at, AtMost, Filled}
+use Rattle.laws.specs.Stores.{at}
+use Rattle.hand.specs.Filled.{AtMost, Filled}
 use Rattle.hand.specs.Busy.{kept-busy}
 use Rattle.hand.specs.Hand.{start-by, finish-by, question-by, hand-by}
 use Rattle.hand.specs.declared.Hand.{Hand}

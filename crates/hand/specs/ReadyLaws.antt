@@ -12,9 +12,9 @@ use Rattle.rules.specs.Workflow.{Workflow}
 use Rattle.rules.specs.Start.{arrival, ready}
 use Rattle.good.specs.Ranges.{InRange}
 use Rattle.laws.specs.Folds.{largest-next, largest-further, largest-at-most}
-use Rattle.laws.specs.Stores.{stored-below, repeated}
+use Rattle.laws.specs.Stores.{stored-below, repeated, at}
 use Rattle.links.specs.Links.{LastInto}
-use Rattle.hand.specs.Filled.{at, Filled}
+use Rattle.hand.specs.Filled.{Filled}
 use Rattle.hand.specs.FilledLaws.{stored-past}
 use Rattle.hand.specs.Hand.{WaitedFor}
 

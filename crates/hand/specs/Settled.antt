@@ -6,7 +6,8 @@ use mathlib.Core.List.{List}
 use native.Mathlib.Decide.{decLe}
 use native.Mathlib.Omega.{arith}
 use lib.Seq.{ext-getD}
-use Rattle.hand.specs.Filled.{at, Filled}
+use Rattle.laws.specs.Stores.{at}
+use Rattle.hand.specs.Filled.{Filled}
 
 pub filled-settled : {m : ℕ} {f : ℕ → ℕ} (xs ys : List ℕ) → Filled m f xs → Filled m f ys → xs ≡ ys
 filled-settled {m} {f} xs ys one other = ext-getD 0 xs ys (one .size ∙ sym (other .size)) (λ j l. same j (decLe m j))

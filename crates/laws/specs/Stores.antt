@@ -11,6 +11,10 @@ use lib.Seq.{getD-set-same, getD-set-other}
 use borrow.Author.Tests.{eq-eqb, ne-eqb}
 use borrow.Author.Count.{below-more}
 
+-- An array of numbers as a function, which is 0 past its end.
+abbrev pub at : List ℕ → ℕ → ℕ
+at xs k = getD xs k 0
+
 pub stored {ℓ} : {A : Type ℓ} (xs : List A) (i : ℕ) (x d : A) (k : ℕ) → i < length xs → getD (set xs i x) k d ≡ cond (eqb i k) x (getD xs k d)
 stored xs i x d k h = go (ℕ-discrete i k)
   where

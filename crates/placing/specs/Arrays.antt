@@ -10,8 +10,8 @@ use borrow.Author.Tests.{eqb-true}
 use Rattle.rules.specs.Start.{latest-end}
 use Rattle.rules.specs.Rows.{Row, Placed, row-of, is-placed, busy}
 use Rattle.laws.specs.Tests.{cond-mapped, cond-either}
-use Rattle.laws.specs.Stores.{stored, stored-holds, repeated}
-use Rattle.hand.specs.Filled.{at, AtMost}
+use Rattle.laws.specs.Stores.{stored, stored-holds, repeated, at}
+use Rattle.hand.specs.Filled.{AtMost}
 use Rattle.hand.specs.Busy.{kept-busy}
 use Rattle.placing.specs.Placed.{Column, Columns}
 use Rattle.placing.specs.Kept.{Marks, Until}

@@ -12,7 +12,8 @@ use Rattle.rules.specs.Method.{Question, Method, Choice, take, nothing}
 use Rattle.rules.specs.Placing.{ready-for, start-of, finish-of, RB, RCB, question, row-on}
 use Rattle.good.specs.Ranges.{InRange}
 use Rattle.laws.specs.Method.{ChoosesAmong}
-use Rattle.hand.specs.Filled.{at, AtMost, Filled}
+use Rattle.laws.specs.Stores.{at}
+use Rattle.hand.specs.Filled.{AtMost, Filled}
 use Rattle.hand.specs.FilledLaws.{filled-at-most}
 use Rattle.hand.specs.ReadyLaws.{ready-at-most}
 use Rattle.hand.specs.Busy.{kept-busy}

@@ -16,7 +16,8 @@ use Rattle.rules.specs.Placing.{start-of, finish-of, RCB, row-on, so-far, stuck
 use Rattle.good.specs.Ranges.{InRange}
 use Rattle.laws.specs.Unmarked.{sum-unmarked-less}
 use Rattle.laws.specs.Method.{ChoosesAmong}
-use Rattle.hand.specs.Filled.{at, Filled}
+use Rattle.laws.specs.Stores.{at}
+use Rattle.hand.specs.Filled.{Filled}
 use Rattle.hand.specs.Busy.{kept-busy}
 use Rattle.hand.specs.Hand.{question-by, hand-by}
 use Rattle.hand.specs.HandLaws.{cost-at-most, finish-at-most}

@@ -9,7 +9,8 @@ use Rattle.rules.specs.Ranks.{R}
 use Rattle.rules.specs.Rows.{Row, Placed, row-of, spent, length-of}
 use Rattle.rules.specs.Method.{HBCS}
 use Rattle.rules.specs.Placing as rules
-use Rattle.hand.specs.Filled.{at, AtMost}
+use Rattle.laws.specs.Stores.{at}
+use Rattle.hand.specs.Filled.{AtMost}
 use Rattle.placing.specs.declared.Outcome.{Outcome}
 use Rattle.placing.specs.declared.Outcome.the-variants as outcome
 use Rattle.placing.specs.declared.Placing.{Placing}

@@ -11,7 +11,8 @@ use Rattle.rules.specs.Ranks.{rank-by}
 use Rattle.good.specs.Ranges.{InRange}
 use Rattle.laws.specs.Folds.{largest-next, largest-of-none, largest-further}
 use Rattle.ranking.specs.Begins.{Begins, below-or-on, from-between}
-use Rattle.ranking.specs.Ranked.{at, NextRank}
+use Rattle.laws.specs.Stores.{at}
+use Rattle.ranking.specs.Ranked.{NextRank}
 use Rattle.ranking.specs.RankBounds.{over-edge, transfer-within, rank-at-least-one}
 
 -- Those from `begin` to before e are passed, of those that end at `end`.

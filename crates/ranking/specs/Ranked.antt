@@ -4,16 +4,14 @@ use mathlib.Core.Path.{_≡_}
 use mathlib.Core.Bool.{Bool, true, false, not}
 use mathlib.Core.List.{List}
 use lib.Dec.{ltb}
-use lib.ListN.{length, getD}
+use lib.ListN.{length}
+use Rattle.laws.specs.Stores.{at}
 use Rattle.rules.specs.Workflow.{Workflow}
 use Rattle.rules.specs.Cycle.{cyclic}
 use Rattle.rules.specs.Ranks.{rank-by, R}
 use Rattle.laws.specs.Unmarked.{count-unmarked}
 use Rattle.laws.specs.Onward.{HasNext}
 use Rattle.ranking.specs.declared.Ranked.{Ranked}
-
-abbrev pub at : List ℕ → ℕ → ℕ
-at ranks i = getD ranks i 0
 
 -- Task i has its rank.
 abbrev pub has-rank : List ℕ → ℕ → Bool

@@ -14,9 +14,9 @@ use Rattle.good.specs.Ranges.{InRange}
 use Rattle.laws.specs.Folds.{sum-same}
 use Rattle.laws.specs.Unmarked.{count-unmarked, and-marked, sum-unmarked-less}
 use Rattle.laws.specs.Ranks.{rank-by-same}
-use Rattle.laws.specs.Stores.{stored}
+use Rattle.laws.specs.Stores.{stored, at}
 use Rattle.ranking.specs.Turned.{Turned}
-use Rattle.ranking.specs.Ranked.{at, has-rank, RankedSoFar, Unknown, HeldUp}
+use Rattle.ranking.specs.Ranked.{has-rank, RankedSoFar, Unknown, HeldUp}
 use Rattle.ranking.specs.RankBounds.{rank-within-more, rank-at-least-one}
 
 module _ (W : Workflow) (range : InRange W) where

@@ -8,7 +8,8 @@ use lib.Seq.{ext-getD}
 use Rattle.rules.specs.Workflow.{Workflow}
 use Rattle.ranking.specs.declared.Ranked.{Ranked}
 use Rattle.ranking.specs.Begins.{below-or-on}
-use Rattle.ranking.specs.Ranked.{at, RankedAs}
+use Rattle.laws.specs.Stores.{at}
+use Rattle.ranking.specs.Ranked.{RankedAs}
 
 module _ (W : Workflow) (a b : Ranked) (one : RankedAs W a) (other : RankedAs W b) where
   all-same : a .all ≡ b .all

@@ -3,7 +3,7 @@ use Prim.Native.Nat.{_≤_, _-_}
 use mathlib.Core.Path.{_≡_}
 use Rattle.rules.specs.Folds.{lowest}
 use Rattle.laws.specs.Folds.{lowest-next}
-use Rattle.hand.specs.Filled.{at}
+use Rattle.laws.specs.Stores.{at}
 use borrow.Author.Needs.{needs}
 use native.Mathlib.Omega.{arith}
 use Rattle.hand.proofs.lowest_of.Statement.{statement}

@@ -4,7 +4,7 @@ use mathlib.Core.Path.{_≡_}
 use Rattle.rules.specs.Workflow.{workflow}
 use Rattle.lookup.specs.Lookup.{workflow-of}
 use Rattle.lookup.specs.Views.{view-in-range}
-use Rattle.hand.specs.Filled.{at}
+use Rattle.laws.specs.Stores.{at}
 use Rattle.hand.specs.ReadyLaws.{ReadyFrom, ready-from-end, ready-from-last, ready-from-more, ready-from-start}
 use native.Mathlib.Omega.{arith}
 use Rattle.hand.proofs.ready_on_all.Statement.{statement}

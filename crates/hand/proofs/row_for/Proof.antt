@@ -4,7 +4,7 @@ use Rattle.rules.specs.Workflow.{workflow}
 use Rattle.rules.specs.Method.{HBCS}
 use Rattle.lookup.specs.Lookup.{workflow-of}
 use Rattle.lookup.specs.Views.{view-in-range}
-use Rattle.hand.specs.Filled.{at}
+use Rattle.laws.specs.Stores.{at}
 use Rattle.hand.specs.Busy.{kept-busy}
 use Rattle.hand.specs.Hand.{question-by, hand-by}
 use Rattle.hand.specs.HandLaws.{RowOn, finish-at-most, asked-in-range, row-on, no-row}

@@ -1,7 +1,7 @@
 -- The minutes of the processors passed are moved, and the others are as they were.
 use Prim.Native.Nat.{_≤_, _-_, max}
 use mathlib.Core.Path.{_≡_, ap, _∙_}
-use Rattle.hand.specs.Filled.{at}
+use Rattle.laws.specs.Stores.{at}
 use Rattle.hand.specs.Hand.{WaitedFor}
 use Rattle.hand.specs.ReadyLaws.{waited-none, waited-more}
 use borrow.Author.Needs.{needs}

@@ -3,6 +3,7 @@ use Prim.Native.Nat.{_+_, _-_, _≤_}
 use mathlib.Core.Path.{_≡_, refl}
 use lib.ListN.{replicate}
 use Rattle.rules.specs.Workflow.{workflow}
+use Rattle.good.specs.Ranges.{InRange}
 use Rattle.lookup.specs.Lookup.{workflow-of}
 use Rattle.lookup.specs.Views.{view-in-range}
 use Rattle.ranking.specs.Begins.{Begins, BeginsFrom, begins-at-end, begins-from}
@@ -19,26 +20,24 @@ Inv-loop s v begins₀ task₀ end₀ begins task end = (task ≤ v .tasks) × B
 abbrev μ-loop : tie.MeasureT-loop
 μ-loop s v begins₀ task₀ end₀ begins task end = task
 
+-- The workflow is in range.
+in-range : (c : tie.Start Inv-loop μ-loop) → InRange (workflow-of (c .args .s .now) (c .args .v))
+in-range c = view-in-range (c .args .s .now) (c .args .v) (c .pre)
+
 -- src/lib.rt:63:20
 cast-begins : tie.Need-cast-begins Inv-loop μ-loop
 unfolding workflow
-cast-begins c =
-    let a = c .before .args in
-    omega (arith, view-in-range (a .s .now) (a .v) (c .before .pre) .edges-in)
+cast-begins c = omega (arith, in-range (c .before) .edges-in)
 
 -- src/lib.rt:63:5
 mul-begins : tie.Need-mul-begins Inv-loop μ-loop
 unfolding workflow
-mul-begins c =
-    let a = c .before .args in
-    omega (arith, view-in-range (a .s .now) (a .v) (c .before .pre) .tasks-in)
+mul-begins c = omega (arith, in-range (c .before) .tasks-in)
 
 -- src/lib.rt:63:5
 array-write-begins : tie.Need-array-write-begins Inv-loop μ-loop
 unfolding workflow
-array-write-begins c =
-    let a = c .before .args in
-    omega (arith, view-in-range (a .s .now) (a .v) (c .before .pre) .tasks-in)
+array-write-begins c = omega (arith, in-range (c .before) .tasks-in)
 
 -- src/lib.rt:64:5
 loop-holds : tie.Need-loop-holds Inv-loop μ-loop
@@ -46,7 +45,7 @@ unfolding workflow
 loop-holds c =
     let a = c .before .args in
     let W = workflow-of (a .s .now) (a .v) in
-    let range = view-in-range (a .s .now) (a .v) (c .before .pre) in
+    let range = in-range (c .before) in
     let at-end = begins-at-end W range in
     (omega arith, at-end, begins-from W (a .v .tasks) (a .v .edges) (replicate 65 0) refl (omega (arith, range .tasks-in)) at-end (λ later l below. absurd (omega arith)))
 
@@ -64,23 +63,17 @@ begin-of-requires c κs =
 -- src/lib.rt:67:24
 cast-begins-2 : tie.Need-cast-begins-2 Inv-loop μ-loop
 unfolding workflow
-cast-begins-2 c =
-    let a = c .before .before .before .before .args in
-    omega (arith, c .begin-of .ensures .within, view-in-range (a .s .now) (a .v) (c .before .before .before .before .pre) .edges-in)
+cast-begins-2 c = omega (arith, c .begin-of .ensures .within, in-range (c .before .before .before .before) .edges-in)
 
 -- src/lib.rt:67:9
 mul-begins-2 : tie.Need-mul-begins-2 Inv-loop μ-loop
 unfolding workflow
-mul-begins-2 c =
-    let a = c .before .before .before .before .args in
-    omega (arith, view-in-range (a .s .now) (a .v) (c .before .before .before .before .pre) .tasks-in)
+mul-begins-2 c = omega (arith, in-range (c .before .before .before .before) .tasks-in)
 
 -- src/lib.rt:67:9
 array-write-begins-2 : tie.Need-array-write-begins-2 Inv-loop μ-loop
 unfolding workflow
-array-write-begins-2 c =
-    let a = c .before .before .before .before .args in
-    omega (arith, view-in-range (a .s .now) (a .v) (c .before .before .before .before .pre) .tasks-in)
+array-write-begins-2 c = omega (arith, in-range (c .before .before .before .before) .tasks-in)
 
 -- src/lib.rt:64:5
 loop-less : tie.Need-loop-less Inv-loop μ-loop
@@ -92,7 +85,7 @@ unfolding workflow
 loop-again c =
     let a = c .before .before .before .before .args in
     let loop = c .before .before .loop in
-    let range = view-in-range (a .s .now) (a .v) (c .before .before .before .before .pre) in
+    let range = in-range (c .before .before .before .before) in
     let so-far = loop .inv .2 in
     let here = c .begin-of .ensures in
     (omega arith, here, begins-from (workflow-of (a .s .now) (a .v)) (loop .task - 1) _ (loop .begins) (so-far .size) (omega (arith, range .tasks-in)) here (λ later l below. so-far .begin later (omega arith) below))

@@ -5,7 +5,7 @@ use native.Mathlib.Nat.{mul-le-mul}
 use Rattle.rules.specs.Workflow.{workflow}
 use Rattle.lookup.specs.Lookup.{workflow-of}
 use Rattle.lookup.specs.Views.{view-in-range}
-use Rattle.ranking.specs.Ranked.{at}
+use Rattle.laws.specs.Stores.{at}
 use Rattle.ranking.specs.Passed.{Passed, passed-none, passed-more, passed-all, held-up-here}
 use borrow.Author.Needs.{needs}
 use native.Mathlib.Omega.{arith}

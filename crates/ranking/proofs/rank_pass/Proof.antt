@@ -1,10 +1,12 @@
 -- Fewer are left, or nothing has changed and every task passed is held up.
 use mathlib.Core.Path.{_≡_}
-use Prim.Native.Nat.{_+_, _-_, _≤_}
+use Prim.Native.Nat.{ℕ, _+_, _-_, _≤_}
 use Rattle.rules.specs.Workflow.{workflow}
+use Rattle.good.specs.Ranges.{InRange}
 use Rattle.lookup.specs.Lookup.{workflow-of}
 use Rattle.lookup.specs.Views.{view-in-range}
 use Rattle.ranking.specs.Turned.{Turned, turned-none, turned-next}
+use Rattle.laws.specs.Stores.{at}
 use Rattle.ranking.specs.Ranked.{RankedSoFar, AllHeldUp}
 use Rattle.ranking.specs.RankedLaws.{held-up-from}
 use native.Mathlib.Omega.{arith}
@@ -21,6 +23,14 @@ Inv-loop s v begins ranks₀ left now-left₀ task₀ ranks now-left task =
 abbrev μ-loop : tie.MeasureT-loop
 μ-loop s v begins ranks₀ left now-left₀ task₀ ranks now-left task = task
 
+-- The workflow is in range, and so is where a task's edges begin.
+in-range : (c : tie.Start Inv-loop μ-loop) → InRange (workflow-of (c .args .s .now) (c .args .v))
+in-range c = view-in-range (c .args .s .now) (c .args .v) (c .pre .0)
+
+begin-within : (c : tie.Start Inv-loop μ-loop) (task : ℕ) → task ≤ c .args .v .tasks → at (c .args .begins .now) task ≤ 512
+unfolding workflow
+begin-within c task l = omega (arith, c .pre .1 .0 .begin task (omega arith) l .within, in-range c .edges-in)
+
 -- src/lib.rt:128:5
 loop-holds : tie.Need-loop-holds Inv-loop μ-loop
 unfolding workflow
@@ -29,25 +39,17 @@ loop-holds c = (omega arith, turned-none (c .before .pre .1 .1) (λ i l below. a
 -- src/lib.rt:129:19
 mul-end : tie.Need-mul-end Inv-loop μ-loop
 unfolding workflow
-mul-end c =
-    let a = c .before .before .before .args in
-    omega (arith, view-in-range (a .s .now) (a .v) (c .before .before .before .pre .0) .tasks-in)
+mul-end c = omega (arith, in-range (c .before .before .before) .tasks-in)
 
 -- src/lib.rt:129:19
 element-copy-out-end : tie.Need-element-copy-out-end Inv-loop μ-loop
 unfolding workflow
-element-copy-out-end c =
-    let a = c .before .before .before .args in
-    omega (arith, view-in-range (a .s .now) (a .v) (c .before .before .before .pre .0) .tasks-in)
+element-copy-out-end c = omega (arith, in-range (c .before .before .before) .tasks-in)
 
 -- src/lib.rt:129:19
 cast-end : tie.Need-cast-end Inv-loop μ-loop
 unfolding workflow
-cast-end c =
-    let a = c .before .before .before .before .args in
-    let pre = c .before .before .before .before .pre in
-    let loop = c .before .before .loop in
-    omega (arith, pre .1 .0 .begin (loop .task) (omega arith) (omega arith) .within, view-in-range (a .s .now) (a .v) (pre .0) .edges-in)
+cast-end c = omega (arith, begin-within (c .before .before .before .before) (c .before .before .loop .task) (omega arith))
 
 -- src/lib.rt:130:9
 sub-task : tie.Need-sub-task Inv-loop μ-loop
@@ -56,25 +58,17 @@ sub-task c = omega arith
 -- src/lib.rt:131:21
 mul-begin : tie.Need-mul-begin Inv-loop μ-loop
 unfolding workflow
-mul-begin c =
-    let a = c .before .before .before .before .args in
-    omega (arith, view-in-range (a .s .now) (a .v) (c .before .before .before .before .pre .0) .tasks-in)
+mul-begin c = omega (arith, in-range (c .before .before .before .before) .tasks-in)
 
 -- src/lib.rt:131:21
 element-copy-out-begin : tie.Need-element-copy-out-begin Inv-loop μ-loop
 unfolding workflow
-element-copy-out-begin c =
-    let a = c .before .before .before .before .args in
-    omega (arith, view-in-range (a .s .now) (a .v) (c .before .before .before .before .pre .0) .tasks-in)
+element-copy-out-begin c = omega (arith, in-range (c .before .before .before .before) .tasks-in)
 
 -- src/lib.rt:131:21
 cast-begin : tie.Need-cast-begin Inv-loop μ-loop
 unfolding workflow
-cast-begin c =
-    let a = c .before .before .before .before .before .args in
-    let pre = c .before .before .before .before .before .pre in
-    let loop = c .before .before .before .loop in
-    omega (arith, pre .1 .0 .begin (loop .task - 1) (omega arith) (omega arith) .within, view-in-range (a .s .now) (a .v) (pre .0) .edges-in)
+cast-begin c = omega (arith, begin-within (c .before .before .before .before .before) (c .before .before .before .loop .task - 1) (omega arith))
 
 -- src/lib.rt:132:9
 rank-task-requires : tie.Need-rank-task-requires Inv-loop μ-loop

@@ -4,7 +4,7 @@ use Rattle.rules.specs.Workflow.{workflow}
 use Rattle.lookup.specs.Lookup.{workflow-of}
 use Rattle.lookup.specs.Views.{view-in-range}
 use Rattle.ranking.specs.Turned.{turned-none}
-use Rattle.ranking.specs.Ranked.{at}
+use Rattle.laws.specs.Stores.{at}
 use Rattle.ranking.specs.RankedLaws.{known-at-most}
 use Rattle.ranking.specs.RankedMore.{some-left, rank-turned}
 use native.Mathlib.Omega.{arith}
