@@ -1,3 +1,4 @@
 pub mod Lookup
+pub mod Parts
 pub mod Views
 pub mod Settled

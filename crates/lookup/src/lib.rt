@@ -79,6 +79,17 @@ pub struct Part {
     pub length: usize,
 }
 
+// Where the label of a task of a good request stands, without its spaces.
+pub fn label_of(s: &[u8], v: View, task: usize) -> Part
+    requires { ⌜ ViewOf (now s) v ⌝ }
+    requires { ⌜ task < v .tasks ⌝ }
+    ensures { λ r. ⌜ meant-part r ≡ label-lookup (now (s .entry)) task ⌝ }
+{
+    let begin = task_place(v, task) + 2;
+    let length = label::label_len(s, begin);
+    Part { begin, length }
+}
+
 // Where the label of a task stands, without its spaces: nowhere, at the start, for a request that is refused in reading and for a task not below n.
 pub fn label_part(s: &[u8], task: usize) -> Part
     ensures { λ r. ⌜ meant-part r ≡ label-lookup (now (s .entry)) task ⌝ }
@@ -96,9 +107,7 @@ pub fn label_part(s: &[u8], task: usize) -> Part
             length: 0,
         };
     }
-    let begin = task_place(v, task) + 2;
-    let length = label::label_len(s, begin);
-    Part { begin, length }
+    label_of(s, v, task)
 }
 
 // The label of a task, without its spaces: a part of the request's own bytes, or its empty start.

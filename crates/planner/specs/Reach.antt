@@ -1,4 +1,5 @@
--- A plan's rows are in reach: at most as many as are lent, by refusal 7, and at most 64. So a column of 64 numbers has them all, and a buffer has room.
+-- A plan's rows are in reach: at most as many as are lent, by refusal 7, and as there are tasks, so at most 64. So a column of 64 numbers has them all,
+-- and a buffer has room.
 use Prim.Native.Nat.{ℕ, _≤_, min}
 use mathlib.Core.Path.{_≡_, refl, ap, _∙_}
 use mathlib.Core.Bool.{Bool, true, false}
@@ -44,14 +45,14 @@ placed-within W (so-far rows) =
     refused-or (too-late (W .deadline) (length-of rows)) 11 (length-of rows) (W .tasks) (plan W rows) (λ in-time. omega arith)
 placed-within W (stuck i) = omega arith
 
-outcome-by-within : (W : Workflow) (lent : ℕ) → W .tasks ≤ 64 → rows-due (answer-of (outcome-by HBCS W lent)) ≤ min lent 64
+pub outcome-by-within : (W : Workflow) (lent : ℕ) → rows-due (answer-of (outcome-by HBCS W lent)) ≤ min lent (W .tasks)
 unfolding outcome-by
-outcome-by-within W lent few =
-    refused-or (ltb lent (W .tasks)) 7 (W .tasks) (min lent 64) _
+outcome-by-within W lent =
+    refused-or (ltb lent (W .tasks)) 7 (W .tasks) (min lent (W .tasks)) _
     (λ enough.
-    refused-or (cyclic W) 8 (lowest-in-cycle W) (min lent 64) _
+    refused-or (cyclic W) 8 (lowest-in-cycle W) (min lent (W .tasks)) _
     (λ no-cycle.
-    refused-or (ltb (W .budget) (cheapest-total W)) 9 (cheapest-total W) (min lent 64) _
+    refused-or (ltb (W .budget) (cheapest-total W)) 9 (cheapest-total W) (min lent (W .tasks)) _
     (λ within. omega (arith, placed-within W (place HBCS W (W .tasks)), ltb-false lent (W .tasks) enough))))
 
 outcome-within-reach : (s : List ℕ) (lent : ℕ) → rows-due (answer-of (outcome s lent)) ≤ min lent 64
@@ -59,7 +60,7 @@ unfolding outcome outcome-read answer-of rows-due workflow
 outcome-within-reach s lent = go (read-request s) refl
   where
     go : (answer : Read Request) → read-request s ≡ answer → rows-due (answer-of (outcome-read s answer lent)) ≤ min lent 64
-    go (read next r) e = outcome-by-within (workflow s r) lent (read-is-good s e .tasks-in .to-high)
+    go (read next r) e = omega (arith, outcome-by-within (workflow s r) lent, read-is-good s e .tasks-in .to-high)
     go (stopped number place) e = omega arith
 
 pub told-due : (o : Outcome) (a : Answer) → meant-answer a ≡ answer-of o → rows-told a ≡ rows-due (answer-of o)

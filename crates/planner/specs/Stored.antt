@@ -8,7 +8,7 @@ use Rattle.rules.specs.Rows.{Row, row-of}
 use Rattle.rules.specs.Answer.{Outcome, plan, refusal, answer-of}
 use Rattle.laws.specs.Listing.{listing-same}
 use Rattle.laws.specs.Overwritten.{overwritten}
-use Rattle.hand.specs.Filled.{at}
+use Rattle.laws.specs.Stores.{at}
 use Rattle.placing.specs.Placed.{Column}
 use Rattle.planner.specs.declared.Answer.{Answer}
 use Rattle.planner.specs.Planned.{meant-answer, rows-in, rows-told, column-after}

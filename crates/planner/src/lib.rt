@@ -9,7 +9,7 @@ ghost use Rattle.rules.specs.Placing as rules;
 ghost use Rattle.rules.specs.Answer.{refusal, too-late, placed-outcome, outcome-by, outcome};
 ghost use Rattle.reader.specs.Meaning.{ViewOf, meant-deadline};
 ghost use Rattle.lookup.specs.Lookup.{workflow-of};
-ghost use Rattle.hand.specs.Filled.{at};
+ghost use Rattle.laws.specs.Stores.{at};
 ghost use Rattle.placing.specs.Placed.{RanksOf, PlacedAs};
 ghost use Rattle.planner.specs.Planned.{PlanOf, outcome-within, rows-told, PlannedInto};
 use placing::Outcome;
@@ -110,8 +110,8 @@ fn plan_ranked(s: &[u8], v: View, ranks: &[u64; 64]) -> Planning
     plan_placed(s, v, placing::place(s, v, ranks, cheapest))
 }
 
-// Checks 7 and 8, then the rest.
-fn plan_good(s: &[u8], v: View, lent: usize) -> Planning
+// The plan of a good request, by its view, with so many rows lent: checks 7 and 8, then the rest.
+pub fn plan_good(s: &[u8], v: View, lent: usize) -> Planning
     requires { ⌜ ViewOf (now s) v ⌝ }
     ensures { λ r. ⌜ PlanOf (outcome-by HBCS (workflow-of (now (s .entry)) v) lent) r ⌝ }
 {

@@ -1,37 +1,38 @@
 -- The rules' place, by its definition; the record lies inside the request.
+use Prim.Native.Nat.{_+_, _≤_}
 use mathlib.Core.Path.{refl}
-use Rattle.rules.specs.Fields.{size, body}
+use lib.ListN.{length}
+use Rattle.rules.specs.Fields.{E, size, body}
 use Rattle.rules.specs.Workflow.{edge-place}
 use Rattle.good.specs.ReadIsGood.{read-is-good}
 use Rattle.good.specs.Inside.{edge-inside}
 use Rattle.reader.specs.Meaning.{meant-view}
-use borrow.Author.Needs.{needs}
 use native.Mathlib.Omega.{arith}
 use Rattle.lookup.proofs.edge_place.Statement.{statement}
 use Rattle.lookup.proofs.edge_place.Tie as tie
 use Rattle.lookup.proofs.edge_place.Reads as reads
 use Rattle.lookup.proofs.edge_place.Lts as lts
 
+-- The record lies inside the request.
+inside : (c : tie.Start) → let a = c .args in edge-place (meant-view (a .v)) (a .edge) + size E ≤ length (a .s .now)
+inside c =
+    let a = c .args in
+    edge-inside (a .s .now) (meant-view (a .v)) (read-is-good _ (c .pre .0)) (a .edge) (c .pre .1)
+
 -- src/lib.rt:46:18
 mul-result : tie.Need-mul-result
 unfolding edge-place size body
-mul-result c =
-    let a = c .args in
-    omega (arith, edge-inside (a .s .now) (meant-view (a .v)) (read-is-good _ (c .pre .0)) (a .edge) (c .pre .1))
+mul-result c = omega (arith, inside c)
 
 -- src/lib.rt:46:5
 add-result : tie.Need-add-result
 unfolding edge-place size body
-add-result c =
-    let a = c .before .args in
-    omega (arith, edge-inside (a .s .now) (meant-view (a .v)) (read-is-good _ (c .before .pre .0)) (a .edge) (c .before .pre .1))
+add-result c = omega (arith, inside (c .before))
 
 -- src/lib.rt:41:1
 returns : tie.Need-returns
 unfolding edge-place size body
-returns c =
-    let a = c .before .args in
-    (refl, edge-inside (a .s .now) (meant-view (a .v)) (read-is-good _ (c .before .pre .0)) (a .edge) (c .before .pre .1))
+returns c = (refl, inside (c .before))
 
 pub edge-place-spec : {M : Type 1} → statement M
 edge-place-spec = tie.close (tie.spec mul-result add-result returns)

@@ -1,12 +1,10 @@
 -- At the edge's place stands the number of the workflow.
-use mathlib.Core.Path.{sym, _∙_, ap}
-use Prim.Native.Nat.{ℕ, _+_}
-use Rattle.rules.specs.Fields.{size, body, byte, E-to}
+use mathlib.Core.Path.{sym, _∙_}
+use Rattle.rules.specs.Fields.{size, body, E-to}
 use Rattle.rules.specs.Workflow.{workflow}
-use Rattle.good.specs.ReadIsGood.{read-is-good}
-use Rattle.good.specs.RangeLaws.{good-in-range}
 use Rattle.good.specs.Inside.{to-there}
 use Rattle.reader.specs.Meaning.{meant-view}
+use Rattle.lookup.specs.Views.{view-in-range}
 use native.Mathlib.Omega.{arith}
 use borrow.Author.Needs.{needs}
 use Rattle.lookup.proofs.to.Statement.{statement}
@@ -29,13 +27,11 @@ field-requires c κs = omega (arith, c .edge-place .ensures .1)
 returns : tie.Need-returns
 unfolding workflow E-to
 returns c =
-    let a-here = c .before .before .before .args in
-    let pre = c .before .before .before .pre in
-    let edge-place = c .before .edge-place in
-    let a = a-here in
-    let place = ap (λ (at : ℕ). byte (a .s .now) (at + 2)) (edge-place .ensures .0) in
-    let is = c .field .ensures .0 ∙ place ∙ sym (to-there (a .s .now) (meant-view (a .v)) (a .edge) (pre .1)) in
-    (is, rw is ((good-in-range (a .s .now) (meant-view (a .v)) (read-is-good _ (pre .0))) .to-below (a .edge) (pre .1)))
+    let start = c .before .before .before in
+    let a = start .args in
+    let read = rw (c .before .edge-place .ensures .0) at (c .field .ensures .0) in
+    let is = read ∙ sym (to-there (a .s .now) (meant-view (a .v)) (a .edge) (start .pre .1)) in
+    (is, rw is (view-in-range (a .s .now) (a .v) (start .pre .0) .to-below (a .edge) (start .pre .1)))
 
 pub to-spec : {M : Type 1} → statement M
 to-spec = tie.close (tie.spec edge-place-requires field-requires returns)

@@ -4,7 +4,7 @@ use mathlib.Core.Path.{_≡_, refl, ap, _∙_}
 use lib.ListN.{length, set}
 use Rattle.rules.specs.Folds.{listing}
 use Rattle.laws.specs.Overwritten.{overwritten, length-overwritten, overwritten-next}
-use Rattle.hand.specs.Filled.{at}
+use Rattle.laws.specs.Stores.{at}
 use borrow.Author.Needs.{needs}
 use native.Mathlib.Omega.{arith}
 use Rattle.planner.proofs.store.Statement.{statement}
