@@ -1,0 +1,25 @@
+-- Two answers that the contract of `plan` allows are one answer, and two exits of the lent rows are one list: the contract settles the answer, every row that
+-- is written and every row that is kept.
+use Prim.Native.Nat.{ℕ}
+use mathlib.Core.Path.{_≡_, refl, sym, ap, _∙_}
+use mathlib.Core.List.{List, [], _∷_, map}
+use Rattle.rules.specs.Rows as rules
+use Rattle.planner.specs.declared.Answer.{Answer}
+use Rattle.planner.specs.Settled.{answer-settled}
+use Rattle.rows.specs.declared.Row.{Row}
+use Rattle.rows.specs.Planned.{meant-row, PlannedRows}
+
+-- The row that means this.
+abbrev row-for : rules.Row → Row
+row-for r = record { processor = r .processor; start = r .start; finish = r .finish; cost = r .cost }
+
+rows-again : (rows : List Row) → map row-for (map meant-row rows) ≡ rows
+rows-again [] = refl
+rows-again (row ∷ rows) = ap (λ rest. row ∷ rest) (rows-again rows)
+
+rows-settled : (a b : List Row) → map meant-row a ≡ map meant-row b → a ≡ b
+rows-settled a b same = sym (rows-again a) ∙ ap (map row-for) same ∙ rows-again b
+
+pub planned-rows-settled : (s : List ℕ) (lent a b : List Row) (r t : Answer) → PlannedRows s lent a r → PlannedRows s lent b t → (a ≡ b) × (r ≡ t)
+planned-rows-settled s lent a b r t one other =
+    (rows-settled a b (one .rows-are ∙ sym (other .rows-are)), answer-settled r t (one .answer-is ∙ sym (other .answer-is)))
