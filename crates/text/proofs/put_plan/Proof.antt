@@ -1,0 +1,93 @@
+-- The answer's line, and then its rows: the text of the request, for which there is room.
+use mathlib.Core.Path.{_≡_}
+use mathlib.Core.List.{_++_}
+use Rattle.rules.specs.Workflow.{workflow}
+use Rattle.rules.specs.Method.{HBCS}
+use Rattle.rules.specs.Answer.{outcome-by}
+use Rattle.rules.specs.Text.{first-line, lines, text}
+use Rattle.demands.specs.GoodRequest.{outcome-of-good}
+use Rattle.lookup.specs.Lookup.{workflow-of}
+use Rattle.planner.specs.Planned.{meant-answer, rows-told}
+use Rattle.planner.specs.Reach.{outcome-by-within, told-due}
+use Rattle.text.specs.AtMost.{room-for-text}
+use Rattle.text.specs.TextParts.{planning-line, planned-text}
+use Rattle.text.specs.Wrote.{Room, wrote-then, room-first, room-next}
+use native.Mathlib.Omega.{arith}
+use borrow.Author.Needs.{needs}
+use Rattle.text.proofs.put_plan.Statement.{statement}
+use Rattle.text.proofs.put_plan.Tie as tie
+use Rattle.text.proofs.put_plan.Reads as reads
+use Rattle.text.proofs.put_plan.Lts as lts
+use Rattle.planner.proofs.plan_good.Reads as plan-good-reads
+use Rattle.planner.proofs.rows_of.Reads as rows-of-reads
+use Rattle.text.proofs.put_first_line.Reads as put-first-line-reads
+use Rattle.text.proofs.put_rows.Reads as put-rows-reads
+
+parts : (c : tie.After-plan-good) →
+    let p = c .plan-good .result in
+    let s = c .before .before .before .args .s .now in
+    text s ≡ first-line (meant-answer (p .answer)) ++ lines (rows-told (p .answer)) (planning-line s p)
+parts c =
+    let start = c .before .before .before in
+    planned-text (start .args .s .now) (c .plan-good .result) (rw (outcome-of-good (start .args .s .now) (start .pre .0) 64) (c .plan-good .ensures))
+
+room : (c : tie.After-plan-good) →
+    let p = c .plan-good .result in
+    let a = c .before .before .before .args in
+    Room (a .out .now) 0 (first-line (meant-answer (p .answer)) ++ lines (rows-told (p .answer)) (planning-line (a .s .now) p))
+room c =
+    let start = c .before .before .before in
+    rw (parts c) at (room-for-text (start .args .s .now) (start .args .out .now) (start .pre .1))
+
+-- src/lib.rt:169:13
+plan-good-requires : tie.Need-plan-good-requires
+plan-good-requires c κs = search needs
+
+-- src/lib.rt:171:9
+put-first-line-requires : tie.Need-put-first-line-requires
+put-first-line-requires c κs = room-first _ (room (c .before))
+
+-- src/lib.rt:172:13
+rows-of-requires : tie.Need-rows-of-requires
+rows-of-requires c κs = search needs
+
+-- src/lib.rt:173:5
+put-rows-requires : tie.Need-put-rows-requires
+unfolding workflow
+put-rows-requires c κs =
+    let counted = c .before .before .before .before .before .before in
+    let told = counted .before .before .before in
+    let planned = told .before .before in
+    let start = planned .before .before .before in
+    let W = workflow-of (start .args .s .now) (start .args .v) in
+    let told-is = told-due (outcome-by HBCS W 64) (planned .plan-good .result .answer) (planned .plan-good .ensures .answer-is) in (
+      start .pre .0,
+      (
+        omega (arith, counted .rows-of .ensures, told-is, outcome-by-within W 64),
+        rw (counted .rows-of .ensures) (room-next (room planned) (told .put-first-line .ensures)),
+      ),
+    )
+
+-- src/lib.rt:164:1
+same-length : tie.Need-same-length
+same-length c = search needs
+
+-- src/lib.rt:164:1
+returns : tie.Need-returns
+returns c =
+    let written = c .before .before in
+    let counted = written .before .before .before .before .before .before .before in
+    let told = counted .before .before .before in
+    rw (parts (told .before .before))
+    (wrote-then (told .put-first-line .ensures) (rw (counted .rows-of .ensures) at (written .put-rows .ensures)))
+
+pub put-plan-spec : {M : Type 1} → statement M
+put-plan-spec =
+    tie.close
+    (tie.spec
+    plan-good-requires
+    put-first-line-requires
+    rows-of-requires
+    put-rows-requires
+    same-length
+    returns)

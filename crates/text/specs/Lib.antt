@@ -1,0 +1,10 @@
+pub mod Printed
+pub mod Wrote
+pub mod Decimals
+pub mod Lines
+pub mod TextParts
+pub mod PlanBounds
+pub mod LineBounds
+pub mod AtMost
+pub mod Printing
+pub mod Settled

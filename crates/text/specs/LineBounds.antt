@@ -1,0 +1,66 @@
+-- How long a line is at most, from how large its numbers are: the first, a refusal's, a row's; and so many lines.
+use Prim.Native.Nat.{ℕ, zero, suc, _+_, _*_, _≤_, _<_}
+use mathlib.Core.Path.{_≡_}
+use mathlib.Core.List.{List}
+use native.Mathlib.Nat.{mul-suc}
+use native.Mathlib.Omega.{arith}
+use lib.ListN.{length, length-append}
+use Rattle.rules.specs.Rows.{Row}
+use Rattle.rules.specs.Answer.{planned, refused}
+use Rattle.rules.specs.Text.{bytes, decimal, line, first-line, row-line, lines}
+use Rattle.text.specs.Decimals.{decimal-length}
+use Rattle.text.specs.Lines.{four-numbers, four-fields, refusal-line}
+use Rattle.text.specs.PlanBounds.{RowBounds}
+
+-- The digits of four numbers, and a byte after each.
+four-length : (a b c d : ℕ) →
+    length (four-numbers a b c d) ≡ length (decimal a) + length (decimal b) + length (decimal c) + length (decimal d) + 4
+four-length a b c d = rw (four-fields a b c d) (simp length-append (omega arith))
+
+pub plan-line-at-most : (n long cost left : ℕ) → n ≤ 64 → long ≤ 192_000 → cost ≤ 12_800_000 → left ≤ 20_000_000
+    → length (first-line (planned n long cost left)) ≤ 33
+unfolding first-line bytes four-numbers
+plan-line-at-most n long cost left n-in long-in cost-in left-in =
+    omega (
+      arith,
+      four-length n long cost left,
+      decimal-length 1 n (omega arith),
+      decimal-length 5 long (omega arith),
+      decimal-length 7 cost (omega arith),
+      decimal-length 7 left (omega arith),
+    )
+
+pub refusal-line-at-most : (number place : ℕ) → number ≤ 11 → place ≤ 12_800_000 → length (first-line (refused number place)) ≤ 15
+unfolding bytes
+refusal-line-at-most number place number-in place-in =
+    rw (refusal-line number place)
+    (simp length-append (omega (arith, decimal-length 1 number (omega arith), decimal-length 7 place (omega arith))))
+
+row-line-length : (name : List ℕ) (r : Row) →
+    length (row-line name r) ≡ length name + suc (length (four-numbers (r .processor) (r .start) (r .finish) (r .cost)))
+unfolding row-line line bytes four-numbers
+row-line-length name r = length-append name _
+
+pub row-line-at-most : (name : List ℕ) (r : Row) → length name ≤ 8 → RowBounds r → length (row-line name r) ≤ 33
+row-line-at-most name r name-in row-in =
+    omega (
+      arith,
+      row-line-length name r,
+      four-length (r .processor) (r .start) (r .finish) (r .cost),
+      decimal-length 1 (r .processor) (omega (arith, row-in .processor-in)),
+      decimal-length 5 (r .start) (omega (arith, row-in .start-in)),
+      decimal-length 5 (r .finish) (omega (arith, row-in .finish-in)),
+      decimal-length 5 (r .cost) (omega (arith, row-in .cost-in)),
+    )
+
+pub lines-at-most : (n : ℕ) (line-of : ℕ → List ℕ) (most : ℕ) → ((i : ℕ) → i < n → length (line-of i) ≤ most) → length (lines n line-of) ≤ most * n
+unfolding lines
+lines-at-most zero line-of most each = omega arith
+lines-at-most (suc n) line-of most each =
+    rw mul-suc
+    (omega (
+      arith,
+      length-append (lines n line-of) (line-of n),
+      lines-at-most n line-of most (λ i l. each i (omega arith)),
+      each n (omega arith),
+    ))

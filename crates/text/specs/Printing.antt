@@ -1,0 +1,55 @@
+-- The two ways that printing ends: the buffer is too small and keeps its content, or the text is written over its front.
+use Prim.Native.Nat.{ℕ, _≤_, _<_}
+use mathlib.Core.Path.{_≡_, refl, ap}
+use mathlib.Core.Bool.{Bool, true, false, cond}
+use mathlib.Core.List.{List, _++_}
+use native.Mathlib.Omega.{arith}
+use lib.ListN.{length, drop, length-append, length-drop}
+use lib.Dec.{leb}
+use borrow.Author.Tests.{le-leb, lt-leb, leb-true}
+use Rattle.rules.specs.Text.{text}
+use Rattle.text.specs.declared.Printed.the-variants.{Whole, TooSmall}
+use Rattle.text.specs.Wrote.{Room, Wrote, wrote-from-start}
+use Rattle.text.specs.Printed.{printed, after, PrintedAs}
+
+module _ (s out : List ℕ) where
+  pub printed-nothing : {n : ℕ} → n ≡ length (text s) → length out < n → PrintedAs s out out (TooSmall n)
+  unfolding printed after
+  printed-nothing {n} long small =
+      let short = lt-leb (length (text s)) (length out) (omega arith) in
+      record { answer-is = rw short (ap TooSmall long); after-is = rw short }
+
+  pub printed-whole : {out′ : List ℕ} {end : ℕ} → Room out 0 (text s) → Wrote out 0 (text s) out′ end → PrintedAs s out out′ (Whole end)
+  unfolding printed after
+  printed-whole {out′} {end} room wrote =
+      let fits = le-leb (length (text s)) (length out) (omega (arith, room .fits)) in
+      let long : end ≡ length (text s) = omega (arith, wrote .ends) in
+      record { answer-is = rw fits (ap Whole long); after-is = rw fits (wrote-from-start wrote) }
+
+-- What an answer says of the text and of the room.
+module _ (t : List ℕ) (room : ℕ) {n : ℕ} where
+  pub whole-printed : Whole n ≡ printed t room → (n ≡ length t) × (n ≤ room)
+  unfolding printed
+  whole-printed = go (leb (length t) room) refl
+    where
+      go : (b : Bool) → leb (length t) room ≡ b → Whole n ≡ cond b (Whole (length t)) (TooSmall (length t)) → (n ≡ length t) × (n ≤ room)
+      go true fits e = let same : n ≡ length t = cc in (same, omega (arith, leb-true (length t) room fits))
+      go false fits e = let z : _≡_ {A = ℕ} 0 1 = cc in absurd (omega arith)
+
+  pub too-small-printed : TooSmall n ≡ printed t room → n ≡ length t
+  unfolding printed
+  too-small-printed = go (leb (length t) room)
+    where
+      go : (b : Bool) → TooSmall n ≡ cond b (Whole (length t)) (TooSmall (length t)) → n ≡ length t
+      go true e = let z : _≡_ {A = ℕ} 0 1 = cc in absurd (omega arith)
+      go false e = cc
+
+-- Printing keeps the buffer's length.
+pub length-after : (t out : List ℕ) → length (after t out) ≡ length out
+unfolding after
+length-after t out = go (leb (length t) (length out)) refl
+  where
+    go : (b : Bool) → leb (length t) (length out) ≡ b → length (cond b (t ++ drop (length t) out) out) ≡ length out
+    go true fits =
+        omega (arith, leb-true (length t) (length out) fits, length-append t (drop (length t) out), length-drop (length t) out)
+    go false fits = refl
