@@ -2,13 +2,17 @@
 ghost use mathlib.Core.Path.{_≡_};
 ghost use Rattle.label.specs.Label.{ListedTold, LabelLength};
 ghost use Rattle.rules.specs.Reading.{read-request};
+ghost use lib.ListN.{length};
 ghost use Rattle.rules.specs.Labels.{label-lookup};
+ghost use Rattle.rules.specs.Text.{text};
+ghost use Rattle.text.specs.Printed.{after};
 ghost use Rattle.reader.specs.Meaning.{meant-deadline};
 ghost use Rattle.planner.specs.Planned.{meant-answer};
 ghost use Rattle.exports.specs.Told.{told-deadline, told, told-part, told-answer, PlanTold};
 use planner::Answer;
 use reader::Deadline;
 use reader::Reading;
+use text::Printed;
 
 // Whether a byte stands in the list.
 #[no_mangle]
@@ -164,4 +168,17 @@ pub extern "C" fn zabgurin_plan(
 {
     let answer = planner::plan_into(request, processors, starts, finishes, costs);
     answer_told(answer)
+}
+
+// Prints the plan of a request, with 64 rows lent, or the refusal. Answers how many bytes the text has. Where the buffer has room for them they stand at its front, and what
+// is after them stays; where it has not, nothing is written.
+#[no_mangle]
+pub extern "C" fn zabgurin_print(request: &[u8], out: &mut [u8]) -> usize
+    ensures { λ r. ⌜ (r ≡ length (text (now (request .entry)))) × (now (out .exit) ≡ after (text (now (request .entry))) (now (out .entry))) ⌝ }
+{
+    let printed = text::print(request, out);
+    match printed {
+        Printed::Whole(length) => length,
+        Printed::TooSmall(length) => length,
+    }
 }
