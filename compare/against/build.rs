@@ -1,16 +1,14 @@
-//! Builds `driver.c` with the archive of the proved code, which the repository's root builds, and hands on the words
-//! of the command that runs it. The archive is for x86-64: on another processor the driver is built by the kit's
-//! compiler and linker and runs under the kit's emulator.
+//! Builds `driver.c` and the example for C with the archive of the proved code, which the repository's root builds, and
+//! hands on the words of the commands that run them. The archive is for x86-64: on another processor the programs are
+//! built by the kit's compiler and linker and run under the kit's emulator.
 use std::path::{Path, PathBuf};
 use std::process::{self, Command};
 use std::{env, fs};
 
 fn main() {
-    let variable = |name| env::var(name).unwrap_or_else(|_| panic!("cargo sets {name}"));
     let here = PathBuf::from(variable("CARGO_MANIFEST_DIR"));
-    let (source, folder) = (here.join("driver.c"), here.join("../../target/staticlib"));
-    let archive = folder.join("libexports.a");
-    println!("cargo:rerun-if-changed={}", source.display());
+    let root = here.join("../..");
+    let archive = root.join("target/staticlib/libexports.a");
     println!("cargo:rerun-if-changed={}", archive.display());
     if !archive.is_file() {
         let archive = archive.display();
@@ -18,36 +16,45 @@ fn main() {
             "{archive} is not there: run `rt staticlib exports` in the repository's root first"
         ));
     }
-    // The benchmarks link the code itself, where it is built for this processor.
-    println!("cargo:rustc-check-cfg=cfg(linked)");
-    let native_folder = here.join("../../target/native");
-    println!("cargo:rerun-if-changed={}", native_folder.display());
-    if native_folder.join("libexports.a").is_file() {
-        println!("cargo:rustc-link-search=native={}", native_folder.display());
-        println!("cargo:rustc-link-lib=static=exports");
-        println!("cargo:rustc-cfg=linked");
+    let include = root.join("include");
+    println!("cargo:rerun-if-changed={}", include.display());
+    let programs = [("DRIVER", here.join("driver.c")), ("EXAMPLE", root.join("examples/plan.c"))];
+    for (name, source) in programs {
+        println!("cargo:rerun-if-changed={}", source.display());
+        let program = Path::new(&variable("OUT_DIR")).join(name);
+        let command = if variable("CARGO_CFG_TARGET_ARCH") == "x86_64" {
+            native(&source, &include, &archive, program)
+        } else {
+            emulated(&source, &include, &archive, program)
+        };
+        let words: Vec<&str> =
+            command.iter().map(|word| word.to_str().expect("a path in UTF-8")).collect();
+        println!("cargo:rustc-env={name}={}", words.join("\u{1f}"));
     }
-    let driver = Path::new(&variable("OUT_DIR")).join("driver");
-    let command = if variable("CARGO_CFG_TARGET_ARCH") == "x86_64" {
-        native(&source, &archive, driver)
-    } else {
-        emulated(&source, &archive, driver)
-    };
-    let words: Vec<&str> =
-        command.iter().map(|word| word.to_str().expect("a path in UTF-8")).collect();
-    println!("cargo:rustc-env=DRIVER={}", words.join("\u{1f}"));
 }
+
+fn variable(name: &str) -> String {
+    env::var(name).unwrap_or_else(|_| panic!("cargo sets {name}"))
+}
+
+const WARNINGS: [&str; 3] = ["-Wall", "-Wextra", "-Werror"];
 
 /// Built by the system's compiler.
-fn native(source: &Path, archive: &Path, driver: PathBuf) -> Vec<PathBuf> {
+fn native(source: &Path, include: &Path, archive: &Path, program: PathBuf) -> Vec<PathBuf> {
     println!("cargo:rerun-if-env-changed=CC");
     let compiler = env::var_os("CC").unwrap_or_else(|| "cc".into());
-    run(Command::new(compiler).args(["-O2", "-pthread", "-o"]).args([&driver, source, archive]));
-    vec![driver]
+    run(Command::new(compiler)
+        .args(WARNINGS)
+        .args(["-O2", "-pthread", "-I"])
+        .arg(include)
+        .arg("-o")
+        .args([&program, source, archive]));
+    vec![program]
 }
 
-/// Built and run as `rt` builds and runs the programs of the repository.
-fn emulated(source: &Path, archive: &Path, driver: PathBuf) -> Vec<PathBuf> {
+/// Built and run as `rt` builds and runs the programs of the repository. The C library's headers are this machine's,
+/// which say the same of what the example uses.
+fn emulated(source: &Path, include: &Path, archive: &Path, program: PathBuf) -> Vec<PathBuf> {
     const TARGET: &str = "x86_64-unknown-linux-gnu";
     println!("cargo:rerun-if-env-changed=PATH");
     let path = env::var_os("PATH").unwrap_or_default();
@@ -58,18 +65,35 @@ fn emulated(source: &Path, archive: &Path, driver: PathBuf) -> Vec<PathBuf> {
     let kit = rt.ancestors().nth(2).unwrap_or_else(|| fail("rt stands in no kit"));
     let own = kit.join("on").join(env::consts::ARCH);
     let tools = own.join("toolchain");
-    let object = driver.with_extension("o");
+    let object = program.with_extension("o");
+    let system = said("cc", "-print-file-name=include");
+    let multiarch = format!("/usr/include/{}", said("cc", "-print-multiarch"));
     run(Command::new(tools.join("bin/clang"))
-        .args(["-target", TARGET, "-O2", "-fPIE", "-c", "-o"])
+        .args(WARNINGS)
+        .args(["-target", TARGET, "-O2", "-fPIE", "-nostdinc", "-I"])
+        .arg(include)
+        .args(["-isystem", &system, "-isystem", "/usr/include", "-isystem", &multiarch])
+        .args(["-c", "-o"])
         .args([&object, source]));
     run(Command::new(own.join("bin/rattle-link"))
         .args(["--target", TARGET, "--toolchain"])
         .arg(&tools)
         .arg("-o")
-        .args([&driver, &object, archive]));
+        .args([&program, &object, archive]));
     let library = tools.join("lib");
     let loader = library.join("ld-linux-x86-64.so.2");
-    vec![tools.join("bin/qemu-x86_64"), loader, "--library-path".into(), library, driver]
+    vec![tools.join("bin/qemu-x86_64"), loader, "--library-path".into(), library, program]
+}
+
+/// The line that a command prints.
+fn said(command: &str, word: &str) -> String {
+    match Command::new(command).arg(word).output() {
+        Ok(output) if output.status.success() => {
+            String::from_utf8_lossy(&output.stdout).trim().to_string()
+        }
+        Ok(output) => fail(&format!("{command} {word} ended with {}", output.status)),
+        Err(error) => fail(&format!("{command} {word} did not start: {error}")),
+    }
 }
 
 fn run(command: &mut Command) {

@@ -5,26 +5,11 @@
 // question its kind and its argument. Once the whole batch has come, the answers are written to standard output: the number of their bytes, then the
 // words of each. Every number is a word, of eight bytes, the lowest first. The end of the input between two batches ends the program.
 
-typedef unsigned char byte;
-typedef unsigned long word;
-_Static_assert(sizeof(word) == 8 && sizeof(void *) == 8, "a word is a usize and a u64");
+#include "zabgurin.h"
 
-// The proved code.
-struct reading {
-    word number, place, tasks, processors, budget, deadline, prices_at, tasks_at, edges_at, edges;
-};
-struct part {
-    word begin, length;
-};
-_Bool zabgurin_listed(byte b);
-word zabgurin_label_len(const byte *request, word request_len, word at);
-struct reading zabgurin_read(const byte *request, word request_len);
-struct part zabgurin_label(const byte *request, word request_len, word task);
-struct answer {
-    word number, place, tasks, length, cost, left;
-};
-struct answer zabgurin_plan(const byte *request, word request_len, word *processors, word processors_len, word *starts, word starts_len,
-                            word *finishes, word finishes_len, word *costs, word costs_len);
+typedef uint8_t byte;
+typedef uint64_t word;
+_Static_assert(sizeof(size_t) == 8 && sizeof(void *) == 8, "a word is a size and a u64");
 
 // The C library, declared here since not every compiler that builds this has its headers.
 long read(int file, void *bytes, word length);
@@ -46,7 +31,7 @@ int pthread_attr_setstack(union attributes *attributes, void *stack, word length
 int pthread_create(word *thread, const union attributes *attributes, void *(*run)(void *), void *argument);
 int pthread_join(word thread, void **result);
 
-enum { LISTED, LABEL_LEN, READ, LABEL, PLAN, DEEPEST };
+enum { LISTED, LABEL_LEN, READ, LABEL, PLAN, PRINT, NOTHING, DEEPEST };
 // How the program ends where it does not end well.
 enum { CUT_INPUT = 10, BAD_INPUT, NO_OUTPUT, NO_MEMORY, WRITTEN_TO, NO_THREAD };
 // The poison before a slice, and what memory is taken in: no smaller than a page.
@@ -165,12 +150,43 @@ static void plan(struct buffer *answers, const byte *slice, word length, word le
         for (word k = 0; k < len[b]; k++)
             lent[b][k] = before(b, k);
     }
-    struct answer answer = zabgurin_plan(slice, length, lent[0], len[0], lent[1], len[1], lent[2], len[2], lent[3], len[3]);
+    struct zabgurin_answer answer = zabgurin_plan(slice, length, lent[0], len[0], lent[1], len[1], lent[2], len[2], lent[3], len[3]);
     put(answers, &answer, sizeof answer);
     for (word b = 0; b < BUFFERS; b++) {
         check_poison((byte *)lent[b]);
         put(answers, lent[b], len[b] * sizeof(word));
     }
+}
+
+// Asks for the text with so much room for it. The answer's word is followed by the bytes of the room, each as a word.
+static void print(struct buffer *answers, const byte *slice, word length, word room) {
+    static byte *end;
+    if (room > PAGE - POISON)
+        _exit(BAD_INPUT);
+    if (!end)
+        end = end_of_room(PAGE);
+    byte *text = end - room;
+    poison(text);
+    memset(text, '#', room);
+    word answer = zabgurin_print(slice, length, text, room);
+    put(answers, &answer, sizeof answer);
+    check_poison(text);
+    for (word k = 0; k < room; k++) {
+        word b = text[k];
+        put(answers, &b, sizeof b);
+    }
+}
+
+// What comes back for no request and no buffers, all of them null.
+static void nothing(struct buffer *answers) {
+    struct zabgurin_answer answer = zabgurin_plan(0, 0, 0, 0, 0, 0, 0, 0, 0, 0);
+    put(answers, &answer, sizeof answer);
+    struct zabgurin_reading reading = zabgurin_read(0, 0);
+    put(answers, &reading, sizeof reading);
+    struct zabgurin_part part = zabgurin_label(0, 0, 0);
+    put(answers, &part, sizeof part);
+    word lengths[2] = {zabgurin_print(0, 0, 0, 0), zabgurin_label_len(0, 0, 0)};
+    put(answers, lengths, sizeof lengths);
 }
 
 // The stack that all runs on, written full of one byte at first, with memory below it that nothing can reach.
@@ -193,13 +209,17 @@ static void answer(struct buffer *answers, const byte *slice, word length, word 
         word len = zabgurin_label_len(slice, length, argument);
         put(answers, &len, sizeof len);
     } else if (kind == READ) {
-        struct reading reading = zabgurin_read(slice, length);
+        struct zabgurin_reading reading = zabgurin_read(slice, length);
         put(answers, &reading, sizeof reading);
     } else if (kind == LABEL) {
-        struct part part = zabgurin_label(slice, length, argument);
+        struct zabgurin_part part = zabgurin_label(slice, length, argument);
         put(answers, &part, sizeof part);
     } else if (kind == PLAN) {
         plan(answers, slice, length, argument);
+    } else if (kind == PRINT) {
+        print(answers, slice, length, argument);
+    } else if (kind == NOTHING) {
+        nothing(answers);
     } else if (kind == DEEPEST) {
         word used = deepest();
         put(answers, &used, sizeof used);

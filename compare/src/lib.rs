@@ -7,6 +7,7 @@ mod plan;
 mod print;
 pub mod random;
 mod request;
+pub mod samples;
 pub mod shapes;
 
 pub use plan::{ranks, schedule};

@@ -3,27 +3,7 @@
 use std::io::{self, Read, Write};
 use std::process::{Child, Command, Stdio};
 
-/// What reading a request comes to. The places are those of the first record of each part; a refusal has number and
-/// place, and 0 in every other field.
-#[repr(C)]
-#[derive(Clone, Copy, Debug, Default, PartialEq, Eq)]
-pub struct Reading {
-    /// The refusal, 1 to 6; 0 for a good request.
-    pub number: u64,
-    /// The refusal's place; 0 for a good request.
-    pub place: usize,
-    pub tasks: usize,
-    pub processors: usize,
-    pub budget: u64,
-    /// 0 without one.
-    pub deadline: u64,
-    pub prices_at: usize,
-    pub tasks_at: usize,
-    /// That of the first edge, or of `Z` where there is none.
-    pub edges_at: usize,
-    /// How many edges there are.
-    pub edges: usize,
-}
+pub use zabgurin::Reading;
 
 /// A part of the request.
 #[repr(C)]
@@ -89,7 +69,9 @@ const LABEL_LEN: u64 = 1;
 const READ: u64 = 2;
 const LABEL: u64 = 3;
 const PLAN: u64 = 4;
-const DEEPEST: u64 = 5;
+const PRINT: u64 = 5;
+const NOTHING: u64 = 6;
+const DEEPEST: u64 = 7;
 
 impl Driver {
     pub fn start() -> Driver {
@@ -164,6 +146,25 @@ impl Driver {
                 (answer, lengths.map(|length| (0..length).map(|_| answers.word()).collect()))
             })
             .collect()
+    }
+
+    /// For requests, each with so much room for its text, full of `#`: how many bytes the text has, and the room after
+    /// the call.
+    pub fn print(&mut self, requests: &[(&[u8], usize)]) -> Vec<(usize, Vec<u8>)> {
+        let batch: Vec<_> =
+            requests.iter().map(|&(request, room)| (request, vec![(PRINT, room as u64)])).collect();
+        let mut answers = self.ask(&batch);
+        requests
+            .iter()
+            .map(|&(_, room)| (answers.size(), (0..room).map(|_| answers.word() as u8).collect()))
+            .collect()
+    }
+
+    /// What comes back for no request and no buffers, all of them null: the answer, the reading, where task 0's label
+    /// is and how long, and the lengths of the text and of a label at 0.
+    pub fn nothing(&mut self) -> (Answer, Reading, [usize; 4]) {
+        let mut answers = self.ask(&[(&[], vec![(NOTHING, 0)])]);
+        (answers.answer(), answers.reading(), [0; 4].map(|_| answers.size()))
     }
 
     /// The most bytes of stack that were in use at any time, those of the thread itself and of the driver included.
@@ -267,78 +268,6 @@ impl Answers {
         }
     }
 }
-
-/// The exported functions linked into this program, to time them, once `native-archive` has built them for this
-/// processor.
-#[cfg(linked)]
-pub mod linked {
-    use super::{Answer, Part, Reading};
-
-    // A struct of more than two words comes back through a pointer that goes first, as in the C of x86-64. Said outright, it
-    // holds on another processor too, where the archive is made from the same module.
-    extern "C" {
-        fn zabgurin_label_len(request: *const u8, request_len: usize, at: usize) -> usize;
-        fn zabgurin_read(reading: *mut Reading, request: *const u8, request_len: usize);
-        fn zabgurin_label(request: *const u8, request_len: usize, task: usize) -> Part;
-        fn zabgurin_plan(
-            answer: *mut Answer,
-            request: *const u8,
-            request_len: usize,
-            processors: *mut u64,
-            processors_len: usize,
-            starts: *mut u64,
-            starts_len: usize,
-            finishes: *mut u64,
-            finishes_len: usize,
-            costs: *mut u64,
-            costs_len: usize,
-        );
-    }
-
-    pub fn label_len(request: &[u8], at: usize) -> usize {
-        // SAFETY: the pointer and the length are one slice's, which is only read, and only during the call.
-        unsafe { zabgurin_label_len(request.as_ptr(), request.len(), at) }
-    }
-
-    pub fn read(request: &[u8]) -> Reading {
-        let mut reading = Reading::default();
-        // SAFETY: the pointer and the length are one slice's, which is only read, and only during the call.
-        unsafe { zabgurin_read(&mut reading, request.as_ptr(), request.len()) };
-        reading
-    }
-
-    pub fn label(request: &[u8], task: usize) -> &[u8] {
-        // SAFETY: the pointer and the length are one slice's, which is only read, and only during the call.
-        unsafe { zabgurin_label(request.as_ptr(), request.len(), task) }.of(request)
-    }
-
-    pub fn plan(request: &[u8], columns: &mut [[u64; 64]; 4]) -> Answer {
-        let [processors, starts, finishes, costs] = columns;
-        let mut answer = Answer::default();
-        // SAFETY: each pointer and length are one slice's; the first is only read, the other four are lent to this call
-        // alone.
-        unsafe {
-            zabgurin_plan(
-                &mut answer,
-                request.as_ptr(),
-                request.len(),
-                processors.as_mut_ptr(),
-                processors.len(),
-                starts.as_mut_ptr(),
-                starts.len(),
-                finishes.as_mut_ptr(),
-                finishes.len(),
-                costs.as_mut_ptr(),
-                costs.len(),
-            )
-        };
-        answer
-    }
-}
-
-/// What a benchmark says without the archive for this processor.
-pub const NOT_HERE: &str =
-    "run compare/against/native-archive first: it builds the proved code for this processor";
 
 /// The same checks as range tests, the way plain Rust writes them.
 pub mod plain {

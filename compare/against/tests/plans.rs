@@ -148,3 +148,38 @@ fn a_small_stack_will_do() {
     println!("{deepest} bytes of stack, {idle} of them before the first plan");
     assert!(deepest < 32 << 10, "{deepest} bytes of stack");
 }
+
+/// The text, with room for all of it and some bytes more, and with one byte too little.
+#[test]
+fn texts() {
+    let mut driver = Driver::start();
+    let mut random = Random(0x7e87_5eed_0000_0001);
+    let mut requests: Vec<Vec<u8>> =
+        good(0x7e87_5eed_0000_0002, 4_032).map(|(request, _)| request).collect();
+    for (k, request) in requests.iter_mut().enumerate().filter(|(k, _)| k % 3 == 0) {
+        Damage::ALL[k / 3 % Damage::ALL.len()].to(&mut random, request);
+    }
+    for batch in requests.chunks(64) {
+        let texts: Vec<Vec<u8>> = batch.iter().map(|request| compare::text(request)).collect();
+        let rooms = |less: usize, more: usize| -> Vec<(&[u8], usize)> {
+            let room = |(request, text): (_, &Vec<u8>)| (request, text.len() - less + more);
+            batch.iter().map(|request| &request[..]).zip(&texts).map(room).collect()
+        };
+        for ((length, room), text) in driver.print(&rooms(0, 9)).into_iter().zip(&texts) {
+            assert_eq!((length, &room[..length]), (text.len(), &text[..]));
+            assert_eq!(&room[length..], b"#########");
+        }
+        for ((length, room), text) in driver.print(&rooms(1, 0)).into_iter().zip(&texts) {
+            assert_eq!(length, text.len());
+            assert!(room.iter().all(|&b| b == b'#'));
+        }
+    }
+}
+
+#[test]
+fn null_slices_are_empty_ones() {
+    let (answer, reading, lengths) = Driver::start().nothing();
+    assert_eq!(answer, against::Answer { number: 1, ..Default::default() });
+    assert_eq!(reading, against::Reading { number: 1, ..Default::default() });
+    assert_eq!(lengths, [0, 0, b"no 1 0\n".len(), 0]);
+}

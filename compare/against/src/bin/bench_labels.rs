@@ -1,5 +1,4 @@
 //! Times the exported label check against the plain one, side by side: nanoseconds for 64 labels, the best of many rounds.
-#![cfg_attr(not(linked), allow(dead_code, unused_imports))]
 use against::plain;
 use std::hint::black_box;
 use std::time::Instant;
@@ -38,14 +37,8 @@ fn round(check: impl Fn(&[u8], usize) -> usize, bytes: &[u8]) -> f64 {
     start.elapsed().as_nanos() as f64 / PASSES as f64
 }
 
-#[cfg(not(linked))]
 fn main() {
-    println!("{}", against::NOT_HERE);
-}
-
-#[cfg(linked)]
-fn main() {
-    use against::linked::label_len;
+    use zabgurin::label_len;
     for len in [8, 4] {
         let bytes = fields(len);
         let (mut ours, mut theirs) = (f64::MAX, f64::MAX);

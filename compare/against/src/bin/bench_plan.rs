@@ -1,7 +1,6 @@
 //! Times the exported planner against the independent program's, side by side: nanoseconds for one plan, the best of
 //! many rounds, from 8 tasks to 64. `bench_plan proved 64 1000` makes so many plans by one of the two (`proved` or
 //! `plain`) and prints nothing, for a tool that counts instructions.
-#![cfg_attr(not(linked), allow(dead_code, unused_imports))]
 use compare::build::Draft;
 use compare::random::{cheapest_total, Random};
 use compare::Row;
@@ -42,14 +41,7 @@ fn request(n: usize) -> Vec<u8> {
     draft.bytes()
 }
 
-#[cfg(not(linked))]
 fn main() {
-    println!("{}", against::NOT_HERE);
-}
-
-#[cfg(linked)]
-fn main() {
-    use against::linked;
     let plain = |request: &[u8]| {
         let mut rows = [Row::default(); 64];
         compare::plan(request, &mut rows);
@@ -57,7 +49,9 @@ fn main() {
     };
     let proved = |request: &[u8]| {
         let mut columns = [[0; 64]; 4];
-        linked::plan(request, &mut columns);
+        let [processors, starts, finishes, costs] = &mut columns;
+        let answer = zabgurin::plan_into(request, processors, starts, finishes, costs);
+        assert!(black_box(answer).is_ok());
         columns[2][0]
     };
     let words: Vec<String> = std::env::args().skip(1).collect();
@@ -70,10 +64,7 @@ fn main() {
     }
     for n in [8, 16, 32, 64] {
         let request = request(n);
-        let mut columns = [[0; 64]; 4];
-        let theirs = compare::plan(&request, &mut [Row::default(); 64]);
-        assert!(matches!(theirs, compare::Answer::Planned { .. }), "{theirs:?}");
-        assert_eq!(linked::plan(&request, &mut columns), theirs.into());
+        assert_eq!(zabgurin::text(&request), compare::text(&request));
         let round = |plan: &dyn Fn(&[u8]) -> u64| {
             let start = Instant::now();
             for _ in 0..PASSES {

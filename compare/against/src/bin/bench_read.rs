@@ -1,6 +1,5 @@
 //! Times the exported reader and label lookup against the independent program's, side by side: nanoseconds for one
 //! request, the best of many rounds.
-#![cfg_attr(not(linked), allow(dead_code, unused_imports))]
 use compare::build::{sample, Draft};
 use compare::random::{sized, Random};
 use std::hint::black_box;
@@ -54,22 +53,15 @@ fn labels() -> Draft {
     draft
 }
 
-#[cfg(not(linked))]
 fn main() {
-    println!("{}", against::NOT_HERE);
-}
-
-#[cfg(linked)]
-fn main() {
-    use against::linked;
     let (full, labels, small) = (full().bytes(), labels().bytes(), sample(28).bytes());
     assert_eq!((full.len(), small.len()), (8_381, 84));
     for request in [&full, &labels, &small] {
-        assert!(linked::read(request).number == 0 && compare::read(request).is_ok());
+        assert!(zabgurin::read(request).number == 0 && compare::read(request).is_ok());
     }
-    compete("read the full request", &full, linked::read, compare::read);
-    compete("read one of labels", &labels, linked::read, compare::read);
-    compete("read S(28)", &small, linked::read, compare::read);
+    compete("read the full request", &full, zabgurin::read, compare::read);
+    compete("read one of labels", &labels, zabgurin::read, compare::read);
+    compete("read S(28)", &small, zabgurin::read, compare::read);
     let last = |label: fn(&[u8], usize) -> &[u8]| move |request: &[u8]| label(request, 63).len();
-    compete("last label of the full request", &full, last(linked::label), last(compare::label));
+    compete("last label of the full request", &full, last(zabgurin::label), last(compare::label));
 }

@@ -1,0 +1,142 @@
+//! Shows a request in words: its records in order, each with its offset, up to the one at which reading stops. It is plain Rust and no part of what is
+//! proved; where it marks a record, the mark is the independent program's refusal.
+
+use std::fmt::Write as _;
+use std::io::{self, Read, Write as _};
+use std::{env, fs, process};
+
+use compare::{read, Refusal};
+
+fn main() {
+    let words: Vec<String> = env::args().skip(1).collect();
+    let request = match &words[..] {
+        [] => {
+            let mut request = Vec::new();
+            io::stdin().lock().read_to_end(&mut request).map(|_| request)
+        }
+        [file] => fs::read(file),
+        _ => {
+            eprintln!("describe [FILE]: one request, from the file or from standard input");
+            process::exit(2);
+        }
+    };
+    let request = request.unwrap_or_else(|error| {
+        eprintln!("{}: {error}", words.first().map_or("standard input", |file| file));
+        process::exit(1);
+    });
+    // A closed output ends it.
+    let _ = io::stdout().lock().write_all(described(&request).as_bytes());
+}
+
+/// The whole description.
+fn described(request: &[u8]) -> String {
+    let refusal = read(request).err();
+    let mut out = String::new();
+    let mut at = 0;
+    while at < request.len() {
+        let end = request.len().min(at + size(request[at]));
+        let stops = refusal.as_ref().is_some_and(|refusal| refusal.place as usize == at);
+        let mark = if stops { ">>" } else { "  " };
+        let text = record(&request[at..end]);
+        writeln!(out, "{mark}{at:6}  {text}").expect("a string takes all");
+        at = end;
+        if stops {
+            break;
+        }
+    }
+    let length = request.len();
+    match refusal {
+        None => writeln!(out, "A good request of {length} bytes."),
+        Some(Refusal { number, place }) => {
+            let rest = length - at;
+            let why = reason(number);
+            writeln!(out, "Reading stops at byte {place} with refusal {number}: {why}.").and_then(
+                |()| match rest {
+                    0 => Ok(()),
+                    _ => writeln!(out, "The {rest} bytes from {at} on were not read."),
+                },
+            )
+        }
+    }
+    .expect("a string takes all");
+    out
+}
+
+/// Bytes of a record of this kind, with the kind byte; 1 for a byte that is no kind.
+fn size(kind: u8) -> usize {
+    match kind {
+        b'H' => 7,
+        b'D' | b'W' | b'E' => 5,
+        b'P' => 3,
+        b'T' => 10,
+        _ => 1,
+    }
+}
+
+/// A record in words, whatever its numbers are. One that is cut short says so.
+fn record(bytes: &[u8]) -> String {
+    let two = |at: usize| u16::from_le_bytes([bytes[at], bytes[at + 1]]);
+    let four =
+        |at: usize| u32::from_le_bytes([bytes[at], bytes[at + 1], bytes[at + 2], bytes[at + 3]]);
+    if bytes.len() < size(bytes[0]) {
+        let (kind, have, want) = (char::from(bytes[0]), bytes.len(), size(bytes[0]));
+        return format!("{kind}  cut short: {have} of {want} bytes");
+    }
+    match bytes[0] {
+        b'H' => format!("H  {} tasks, {} processors, budget {}", bytes[1], bytes[2], four(3)),
+        b'D' => format!("D  deadline {}", four(1)),
+        b'P' => format!("P  processor {}, price {}", bytes[1], bytes[2]),
+        b'T' => format!("T  task {}, label \"{}\"", bytes[1], bytes[2..].escape_ascii()),
+        b'W' => format!("W  task {} on processor {}: {} minutes", bytes[1], bytes[2], two(3)),
+        b'E' => format!("E  from {} to {}, transfer {}", bytes[1], bytes[2], two(3)),
+        b'Z' => "Z  end".to_string(),
+        other => format!("?  byte {other} begins no record"),
+    }
+}
+
+/// What the numbers of reading mean.
+fn reason(number: u64) -> &'static str {
+    match number {
+        1 => "the input ends before this record is whole",
+        2 => "another record is due here",
+        3 => "another number is due here, or the edge is not greater than the one before",
+        4 => "a number is out of its range, or this is the 513th edge",
+        5 => "the label is not 1 to 8 bytes of the list and then spaces",
+        6 => "there are bytes after the end",
+        _ => unreachable!("reading refuses with 1 to 6"),
+    }
+}
+
+#[cfg(test)]
+mod tests {
+    use super::described;
+    use compare::build::sample;
+
+    #[test]
+    fn a_good_request() {
+        let text = described(&sample(28).bytes());
+        assert!(text.starts_with("       0  H  3 tasks, 2 processors, budget 28\n"), "{text}");
+        assert!(text.contains("      13  T  task 0, label \"prep    \"\n"), "{text}");
+        assert!(text.contains("      78  E  from 0 to 2, transfer 3\n"), "{text}");
+        assert!(text.ends_with("      83  Z  end\nA good request of 84 bytes.\n"), "{text}");
+    }
+
+    #[test]
+    fn the_refused_record_is_marked() {
+        let mut request = sample(28).bytes();
+        request[15] = b';';
+        let text = described(&request);
+        assert!(text.contains(">>    13  T  task 0, label \";rep    \"\n"), "{text}");
+        assert!(text.contains("Reading stops at byte 13 with refusal 5"), "{text}");
+        assert!(text.ends_with("The 61 bytes from 23 on were not read.\n"), "{text}");
+    }
+
+    #[test]
+    fn input_that_ends() {
+        let request = &sample(28).bytes()[..9];
+        let text = described(request);
+        assert!(text.contains(">>     7  P  cut short: 2 of 3 bytes\n"), "{text}");
+        assert!(described(b"").contains("Reading stops at byte 0 with refusal 1"));
+        assert!(described(&[0]).contains(">>     0  ?  byte 0 begins no record\n"));
+    }
+}

@@ -1,0 +1,62 @@
+//! The requests of `samples/`.
+
+use crate::build::{sample, Draft};
+
+/// Their names and bytes.
+pub fn all() -> Vec<(&'static str, Vec<u8>)> {
+    let mut semicolon = sample(28).bytes();
+    // The first byte of the first label.
+    semicolon[15] = b';';
+    vec![("s28", sample(28).bytes()), ("semicolon", semicolon), ("ten", ten().bytes())]
+}
+
+/// Ten tasks of a small analysis on three machines, with a deadline.
+fn ten() -> Draft {
+    let minutes: [&[u16]; 10] = [
+        &[30, 18, 9],
+        &[40, 24, 12],
+        &[40, 24, 12],
+        &[25, 15, 8],
+        &[60, 36, 18],
+        &[55, 33, 17],
+        &[35, 21, 11],
+        &[20, 12, 6],
+        &[45, 27, 14],
+        &[15, 9, 5],
+    ];
+    let edges = [
+        (0, 1, 5),
+        (0, 2, 5),
+        (0, 3, 3),
+        (1, 4, 8),
+        (2, 4, 8),
+        (2, 5, 8),
+        (3, 6, 4),
+        (4, 8, 10),
+        (5, 8, 10),
+        (6, 7, 2),
+        (7, 9, 3),
+        (8, 9, 6),
+    ];
+    let mut draft = Draft::new(450, &[1, 2, 5], &minutes, &edges);
+    draft.deadline = Some(240);
+    let labels = [
+        "fetch", "clean-a", "clean-b", "index", "align-a", "align-b", "count", "norm", "model",
+        "report",
+    ];
+    for (task, label) in draft.tasks.iter_mut().zip(labels) {
+        task.0 = label.to_string();
+    }
+    draft
+}
+
+#[cfg(test)]
+mod tests {
+    #[test]
+    fn the_files_are_these() {
+        for (name, request) in super::all() {
+            let file = format!("{}/../samples/{name}.request", env!("CARGO_MANIFEST_DIR"));
+            assert_eq!(std::fs::read(&file).ok(), Some(request), "{file}");
+        }
+    }
+}
