@@ -1,2 +1,3 @@
-pub mod Walk
+pub mod Locals
 pub mod Columns
+pub mod Calls

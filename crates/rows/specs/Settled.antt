@@ -1,5 +1,5 @@
--- Two answers that the contract of `plan` allows are one answer, and two exits of the lent rows are one list: the contract settles the answer, every row that
--- is written and every row that is kept.
+-- Two answers that the contract of `plan` allows are one answer, and two exits of the lent rows are one list: the contract settles the answer, each row
+-- that is written and each that is kept.
 use Prim.Native.Nat.{ℕ}
 use mathlib.Core.Path.{_≡_, refl, sym, ap, _∙_}
 use mathlib.Core.List.{List, [], _∷_, map}

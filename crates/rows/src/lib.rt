@@ -24,6 +24,7 @@ fn rows_due(p: Planning) -> usize
     planner::rows_of(told) as usize
 }
 
+// The answer that the rows come with.
 fn answer_of(p: Planning) -> Answer
     ensures { λ r. ⌜ r ≡ p .answer ⌝ }
 {
