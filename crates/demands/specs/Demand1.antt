@@ -1,5 +1,23 @@
 -- Demand 1: every byte string is answered, one way, and no label off the list gets through. What reading is stands in `Reads`, and what it
 -- refuses in `Demand1Reading`.
+pub mod Wanted
+pub mod Tells
+pub mod Reads
+pub mod FaultSettled
+pub mod ReadsSettled
+pub mod Goes
+pub mod DueAt
+pub mod Awaits
+pub mod RecordGoes
+pub mod ReadPasses
+pub mod EdgesPass
+pub mod PartsGo
+pub mod ReadingGoes
+pub mod PartsRead
+pub mod RecordsPass
+pub mod Stands
+pub mod Reading
+pub mod LabelBytes
 use Prim.Native.Nat.{ℕ, _+_, _≤_, _<_}
 use mathlib.Core.Path.{_≡_, refl, sym, ap, _∙_}
 use mathlib.Core.List.{List, List·Memᴰ}
@@ -19,15 +37,15 @@ use Rattle.good.specs.ReadIsGood.{read-is-good}
 use Rattle.good.specs.RangeLaws.{good-length}
 use Rattle.good.specs.Labels.{good-label, label-begins}
 use Rattle.good.specs.Program.{answer-first, rows-after-first, label-lookup-first, label-first, program-is-text}
-use Rattle.demands.specs.Wanted.{task, Passes}
-use Rattle.demands.specs.Reads.{Stops}
-use Rattle.demands.specs.Stands.{PassesReading}
-use Rattle.demands.specs.Demand1Reading.{reading-stops, fault-stops, read-iff-passes, records-pass, stopped-with-1-to-6}
-use Rattle.demands.specs.LabelBytes.{label-bytes-length, label-byte, label-byte-listed, each-member}
-use Rattle.demands.specs.GoodWorkflow.{good-workflow}
-use Rattle.demands.specs.GoodRequest.{outcome-of-good, outcome-of-stopped}
-use Rattle.demands.specs.Demand2.{Due, requests-get-their-due}
-use Rattle.demands.specs.DueSettled.{due-is-outcome}
+use Rattle.demands.specs.Demand1.Wanted.{task, Passes}
+use Rattle.demands.specs.Demand1.Reads.{Stops}
+use Rattle.demands.specs.Demand1.Stands.{PassesReading}
+use Rattle.demands.specs.Demand1.Reading.{reading-stops, fault-stops, read-iff-passes, records-pass, stopped-with-1-to-6}
+use Rattle.demands.specs.Demand1.LabelBytes.{label-bytes-length, label-byte, label-byte-listed, each-member}
+use Rattle.demands.specs.Ground.GoodWorkflow.{good-workflow}
+use Rattle.demands.specs.Ground.GoodRequest.{outcome-of-good, outcome-of-stopped}
+use Rattle.demands.specs.Demand2.Due.{Due, requests-get-their-due}
+use Rattle.demands.specs.Demand2.DueSettled.{due-is-outcome}
 
 -- "It returns the label, without its spaces, as a part of the caller's own bytes": the label field in the record of task i is 1 to 8 bytes of
 -- the list and then spaces, and the lookup gives those bytes, where they stand.

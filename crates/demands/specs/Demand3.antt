@@ -1,4 +1,14 @@
 -- Demand 3: two requests that differ only in their units get the same machines or the same refusal.
+pub mod ScoreMultiplied
+pub mod ZeroRanges
+pub mod HBCSMultiplied
+pub mod CostsMultiplied
+pub mod RowsMultiplied
+pub mod PlacingMultiplied
+pub mod AnswerMultiplied
+pub mod SampleMultiplied
+pub mod StandIns
+pub mod RoundedMean
 use mathlib.Core.Path.{_≡_, sym, ap, ap₂, _∙_}
 use Prim.Native.Nat.{ℕ, _*_, _<_, _≤_}
 use mathlib.Core.List.{List, map}
@@ -13,9 +23,9 @@ use Rattle.rules.specs.Rows.{Row}
 use Rattle.rules.specs.Method.{HBCS}
 use Rattle.rules.specs.Answer.{outcome-by, outcome, planned, refused, answer-of, answer, written, rows-after}
 use Rattle.rules.specs.Multiplied.{multiplied-deadline, multiplied, multiplied-row, multiplied-place, multiplied-answer}
-use Rattle.demands.specs.HBCSMultiplied.{HBCS-keeps-choices}
-use Rattle.demands.specs.AnswerMultiplied.{multiplied-outcome, outcome-by-multiplied, answer-of-multiplied, written-multiplied}
-use Rattle.demands.specs.GoodRequest.{outcome-of-good, ZeroBeyond, workflow-zero-beyond, ends-multiplied, same-everywhere}
+use Rattle.demands.specs.Demand3.HBCSMultiplied.{HBCS-keeps-choices}
+use Rattle.demands.specs.Demand3.AnswerMultiplied.{multiplied-outcome, outcome-by-multiplied, answer-of-multiplied, written-multiplied}
+use Rattle.demands.specs.Ground.GoodRequest.{outcome-of-good, ZeroBeyond, workflow-zero-beyond, ends-multiplied, same-everywhere}
 
 -- "all times, transfers and any deadline multiplied by a whole a, prices by a whole b, the budget by a times b": W′ is W so multiplied.
 -- "A request without `D` stays without one. [..] edges' ends, n and m are equal."

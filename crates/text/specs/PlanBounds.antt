@@ -15,8 +15,8 @@ use Rattle.good.specs.Ranges.{InRange}
 use Rattle.laws.specs.Tests.{cond-either}
 use Rattle.laws.specs.Folds.{sum-at-most-each}
 use Rattle.demands.specs.StartLaws.{start-at-most}
-use Rattle.demands.specs.Steps.{EachStep, AsTheMethod}
-use Rattle.demands.specs.Demand2.{MethodsPlan}
+use Rattle.demands.specs.Demand2.Steps.{EachStep, AsTheMethod}
+use Rattle.demands.specs.Demand2.Due.{MethodsPlan}
 use Rattle.hand.specs.HandLaws.{cost-at-most}
 use Rattle.hand.specs.ReadyLaws.{ready-at-most}
 

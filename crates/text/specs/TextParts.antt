@@ -8,7 +8,7 @@ use Rattle.rules.specs.Labels.{label}
 use Rattle.rules.specs.Rows.{Placed, row-of}
 use Rattle.rules.specs.Answer.{Outcome, plan, refusal, answer-of, answer, outcome, refused}
 use Rattle.rules.specs.Text.{first-line, row-line, lines, row-lines, text}
-use Rattle.demands.specs.GoodRequest.{outcome-of-stopped}
+use Rattle.demands.specs.Ground.GoodRequest.{outcome-of-stopped}
 use Rattle.laws.specs.Stores.{at}
 use Rattle.placing.specs.Placed.{Columns}
 use Rattle.planner.specs.declared.Planning.{Planning}

@@ -5,7 +5,7 @@ use Rattle.rules.specs.Workflow.{workflow}
 use Rattle.rules.specs.Method.{HBCS}
 use Rattle.rules.specs.Answer.{outcome-by}
 use Rattle.rules.specs.Text.{first-line, lines, text}
-use Rattle.demands.specs.GoodRequest.{outcome-of-good}
+use Rattle.demands.specs.Ground.GoodRequest.{outcome-of-good}
 use Rattle.lookup.specs.Lookup.{workflow-of}
 use Rattle.planner.specs.Planned.{meant-answer, rows-told}
 use Rattle.planner.specs.Reach.{outcome-by-within, told-due}

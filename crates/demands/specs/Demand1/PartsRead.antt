@@ -1,0 +1,54 @@
+-- The parts of a request that was read: each was read from where the request says that it begins.
+use Prim.Native.Nat.{ℕ}
+use mathlib.Core.Path.{_≡_, refl, _∙_, subst}
+use mathlib.Core.Bool.{Bool, true, false, cond}
+use mathlib.Core.List.{List}
+use native.Mathlib.Nat.{zero-add}
+use lib.ListN.{length}
+use lib.Dec.{ltb}
+use Rattle.rules.specs.Fields.{H, size, H-tasks, H-processors, H-budget}
+use Rattle.rules.specs.Records.{Record, read, stopped, header-at}
+use Rattle.rules.specs.Reading.{deadline-part, prices-part, tasks-part, edges-part, Request, nothing-after, read-request}
+use Rattle.good.specs.Records.{stopped-not-read}
+use Rattle.good.specs.Reading.{then-read}
+use Rattle.good.specs.Kinds.{header-read}
+use Rattle.demands.specs.Demand1.Reads.{none-before}
+
+pub record PartsRead (s : List ℕ) (r : Request) : Type 0 where
+  pub tasks : r .tasks ≡ H-tasks s 0
+  pub processors : r .processors ≡ H-processors s 0
+  pub budget : r .budget ≡ H-budget s 0
+  pub header-read : (next : ℕ) × (x : Record) × (header-at s 0 ≡ read next x)
+  pub deadline-read : deadline-part s (size H) ≡ read (r .prices-at) (r .deadline)
+  pub prices-read : prices-part s (r .processors) (r .prices-at) ≡ read (r .tasks-at) tt
+  pub tasks-read : tasks-part s (r .tasks) (r .processors) (r .tasks-at) ≡ read (r .edges-at) tt
+  pub edges-read : (next : ℕ) × (edges-part s (r .tasks) (r .edges-at) none-before 513 ≡ read next (r .edges))
+
+nothing-after-same : (s : List ℕ) (at : ℕ) (r : Request) {end : ℕ} {was : Request} → nothing-after s at r ≡ read end was → r ≡ was
+unfolding nothing-after
+nothing-after-same s at r {end} {was} e = go (ltb at (length s)) e
+  where
+    go : (t : Bool) → cond t (stopped 6 at) (read at r) ≡ read end was → r ≡ was
+    go true p = absurd (stopped-not-read p)
+    go false p = cc
+
+pub parts-were-read : (s : List ℕ) {end : ℕ} {r : Request} → read-request s ≡ read end r → PartsRead s r
+unfolding read-request
+parts-were-read s e =
+    let (after-header, was, header, e₁) = then-read _ _ e in
+    let (prices-at, deadline, deadline-part-read, e₂) = then-read _ _ e₁ in
+    let (tasks-at, u, prices, e₃) = then-read _ _ e₂ in
+    let (edges-at, u, tasks, e₄) = then-read _ _ e₃ in
+    let (after-end, edges, edges-part-read, e₅) = then-read _ _ e₄ in
+    let after-H = header-read s 0 header .ends ∙ zero-add (size H) in
+    subst (PartsRead s) (nothing-after-same s after-end _ e₅)
+    (record {
+      tasks = refl;
+      processors = refl;
+      budget = refl;
+      header-read = (after-header, was, header);
+      deadline-read = subst (λ at. deadline-part s at ≡ read prices-at deadline) after-H deadline-part-read;
+      prices-read = prices;
+      tasks-read = tasks;
+      edges-read = (after-end, edges-part-read);
+    })

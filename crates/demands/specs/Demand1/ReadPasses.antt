@@ -1,0 +1,41 @@
+-- A record that was read passes: kind by kind.
+use Prim.Native.Nat.{ℕ}
+use mathlib.Core.Path.{_≡_}
+use mathlib.Core.List.{List}
+use native.Mathlib.Omega.{arith}
+use Rattle.rules.specs.Fields.{H, D, P, T, W, E, Z, H-tasks}
+use Rattle.rules.specs.Records.{Record, read, header-at, deadline-at, price-at, task-at, minutes-at, Edges, edge-at, end-at}
+use Rattle.good.specs.Records.{record-read}
+use Rattle.demands.specs.Demand1.Wanted.{header, deadline, price, task, minutes, edge, end, Passes}
+use Rattle.demands.specs.Demand1.Goes.{goes-on}
+use Rattle.demands.specs.Demand1.DueAt.{only-due}
+use Rattle.demands.specs.Demand1.RecordGoes.{header-goes, deadline-goes, price-goes, task-goes, minutes-goes, edge-goes, end-goes}
+
+module _ (s : List ℕ) (at : ℕ) {next : ℕ} {r : Record} where
+  pub header-passes : header-at s at ≡ read next r → Passes s at header
+  unfolding header-at
+  header-passes e = goes-on (header-goes s at (only-due header (omega (arith, record-read s at H _ _ e .whole)))) e .passes
+
+  pub deadline-passes : deadline-at s at ≡ read next r → Passes s at deadline
+  unfolding deadline-at
+  deadline-passes e = goes-on (deadline-goes s at (only-due deadline (omega (arith, record-read s at D _ _ e .whole)))) e .passes
+
+  pub price-passes : (j : ℕ) → price-at s at j ≡ read next r → Passes s at (price j)
+  unfolding price-at
+  price-passes j e = goes-on (price-goes s at j (only-due (price j) (omega (arith, record-read s at P _ _ e .whole)))) e .passes
+
+  pub task-passes : (i : ℕ) → task-at s at i ≡ read next r → Passes s at (task i)
+  unfolding task-at
+  task-passes i e = goes-on (task-goes s at i (only-due (task i) (omega (arith, record-read s at T _ _ e .whole)))) e .passes
+
+  pub minutes-passes : (i j : ℕ) → minutes-at s at i j ≡ read next r → Passes s at (minutes i j)
+  unfolding minutes-at
+  minutes-passes i j e = goes-on (minutes-goes s at i j (only-due (minutes i j) (omega (arith, record-read s at W _ _ e .whole)))) e .passes
+
+  pub edge-passes : (before : Edges) → edge-at s at (H-tasks s 0) before ≡ read next r → Passes s at (edge before)
+  unfolding edge-at
+  edge-passes before e = goes-on (edge-goes s at before (only-due (edge before) (omega (arith, record-read s at E _ _ e .whole)))) e .passes
+
+  pub end-passes : end-at s at ≡ read next r → Passes s at end
+  unfolding end-at
+  end-passes e = goes-on (end-goes s at (only-due end (omega (arith, record-read s at Z _ _ e .whole)))) e .passes

@@ -1,0 +1,93 @@
+-- Every record of a request that passes reading stands at its place and passes there: so the numbers of its workflow are those of its records.
+use Prim.Native.Nat.{ℕ, _+_, _*_, _<_}
+use mathlib.Core.Path.{_≡_, subst}
+use mathlib.Core.Bool.{Bool, true, false, cond}
+use mathlib.Core.List.{List}
+use native.Mathlib.Omega.{arith}
+use lib.Dec.{eqb}
+use Rattle.rules.specs.Fields.{H, D, E, size, kind-byte, byte, D-deadline}
+use Rattle.rules.specs.Records.{read, deadline-at}
+use Rattle.rules.specs.Reading.{then, no-deadline, by, deadline-part, prices-part, task-part, tasks-part, edges-part}
+use Rattle.rules.specs.Reading.{Request, read-request}
+use Rattle.rules.specs.Workflow.{price-place, task-place, minutes-place, edge-place}
+use Rattle.good.specs.Reading.{then-read, each-part}
+use Rattle.good.specs.Kinds.{task-read}
+use Rattle.good.specs.Parts.{price-steps, minutes-steps, task-steps}
+use Rattle.demands.specs.Demand1.Wanted.{header, deadline, price, task, minutes, edge, end, Passes}
+use Rattle.demands.specs.Demand1.Reads.{none-before}
+use Rattle.demands.specs.Demand1.PartsRead.{PartsRead, parts-were-read}
+use Rattle.demands.specs.Demand1.ReadPasses.{header-passes, deadline-passes, price-passes, task-passes, minutes-passes}
+use Rattle.demands.specs.Demand1.EdgesPass.{edges-before, EdgesPass, edges-that-were-read-pass}
+
+pub record RecordsPass (s : List ℕ) (r : Request) : Type 0 where
+  pub header : Passes s 0 header
+  pub deadline : (d : ℕ) → r .deadline ≡ by d → Passes s (size H) deadline
+  pub prices : (j : ℕ) → j < r .processors → Passes s (price-place r j) (price j)
+  pub tasks : (i : ℕ) → i < r .tasks → Passes s (task-place r i) (task i)
+  pub minutes : (i j : ℕ) → i < r .tasks → j < r .processors → Passes s (minutes-place r i j) (minutes i j)
+  pub edges : (e : ℕ) → e < r .edges → Passes s (edge-place r e) (edge (edges-before s (r .edges-at) none-before e))
+  pub end : Passes s (edge-place r (r .edges)) end
+
+module _ (s : List ℕ) (r : Request) (parts : PartsRead s r) where
+  price-stands : (j : ℕ) → j < r .processors → Passes s (price-place r j) (price j)
+  unfolding prices-part price-place
+  price-stands j l =
+      let (after, was, here) = each-part _ _ (price-steps s) (r .prices-at) (r .processors) (parts .prices-read) j l in
+      price-passes s _ j here
+
+  task-part-stands : (i : ℕ) → i < r .tasks → (after : ℕ) × (task-part s (r .processors) (task-place r i) i ≡ read after tt)
+  unfolding tasks-part task-place
+  task-part-stands i l =
+      let (after, was, here) = each-part _ _ (task-steps s (r .processors)) (r .tasks-at) (r .tasks) (parts .tasks-read) i l in
+      (after, here)
+
+  task-stands : (i : ℕ) → i < r .tasks → Passes s (task-place r i) (task i)
+  unfolding task-part
+  task-stands i l =
+      let (after, part) = task-part-stands i l in
+      let (place, was, here, rest) = then-read _ _ part in
+      task-passes s _ i here
+
+  minutes-stand : (i j : ℕ) → i < r .tasks → j < r .processors → Passes s (minutes-place r i j) (minutes i j)
+  unfolding task-part minutes-place
+  minutes-stand i j l m =
+      let (after, part) = task-part-stands i l in
+      let (place, was, here, rest) = then-read _ _ part in
+      let begins = task-read s (task-place r i) i here .0 in
+      let (after′, was′, there) = each-part _ _ (minutes-steps s i) place (r .processors) rest j m in
+      subst (λ at. Passes s at (minutes i j)) (omega arith) (minutes-passes s _ i j there)
+
+  deadline-stands-there : (d : ℕ) → r .deadline ≡ by d → Passes s (size H) deadline
+  unfolding deadline-part
+  deadline-stands-there d is = go (eqb (byte s (size H)) (kind-byte D)) (parts .deadline-read)
+    where
+      go :
+          (t : Bool)
+          → cond t (then (deadline-at s (size H)) (λ next _. read next (by (D-deadline s (size H))))) (read (size H) no-deadline)
+          ≡ read (r .prices-at) (r .deadline)
+          → Passes s (size H) deadline
+      go true p = let (place, was, here, done) = then-read (deadline-at s (size H)) _ p in deadline-passes s (size H) here
+      go false p = let z : _≡_ {A = ℕ} 0 1 = cc in absurd (omega arith)
+
+  edges-stand : EdgesPass s (r .edges-at) none-before (r .edges)
+  edges-stand =
+      let (next, e) = parts .edges-read in
+      edges-that-were-read-pass s 513 (r .edges-at) none-before
+      (subst (λ n. edges-part s n (r .edges-at) none-before 513 ≡ read next (r .edges)) (parts .tasks) e)
+
+-- What is read passes, record by record.
+pub read-records-pass : (s : List ℕ) {end : ℕ} {r : Request} → read-request s ≡ read end r → RecordsPass s r
+unfolding edge-place
+read-records-pass s {r = r} e =
+    let parts = parts-were-read s e in
+    let edges = edges-stand s r parts in
+    let (next, was, header-there) = parts .header-read in
+    record {
+      header = header-passes s 0 header-there;
+      deadline = deadline-stands-there s r parts;
+      prices = price-stands s r parts;
+      tasks = task-stands s r parts;
+      minutes = minutes-stand s r parts;
+      edges = λ e l. edges .edges-pass e (omega (arith, edges .counted));
+      end = subst (λ k. Passes s (r .edges-at + k * size E) end) (omega (arith, edges .counted)) (edges .end-passes);
+    }

@@ -1,0 +1,57 @@
+-- No task starts before its inputs arrived: its predecessors are placed when it is, and their rows stay as they were.
+use Prim.Native.Nat.{ℕ, _≤_, _<_}
+use mathlib.Core.Path.{_≡_, sym, _∙_}
+use mathlib.Core.Bool.{true, false, cond}
+use mathlib.Core.List.{List, _∷_}
+use native.Mathlib.Omega.{arith}
+use lib.Dec.{eqb}
+use borrow.Author.Tests.{eq-eqb}
+use Rattle.rules.specs.Workflow.{Workflow}
+use Rattle.rules.specs.Cycle.{Leads}
+use Rattle.rules.specs.Start.{arrival, ready}
+use Rattle.rules.specs.Rows.{Placed, row-of, is-placed, busy}
+use Rattle.rules.specs.Method.{Method}
+use Rattle.rules.specs.Placing.{ready-for, start-of, row-on}
+use Rattle.laws.specs.Folds.{at-most-largest}
+use Rattle.demands.specs.StartLaws.{start-not-before-ready}
+use Rattle.demands.specs.Demand2.Lookup.{none-placed, old-placed, old-row, each-row}
+use Rattle.demands.specs.Ground.GoodWorkflow.{GoodWorkflow}
+use Rattle.demands.specs.Demand2.Order.{predecessors-placed}
+use Rattle.demands.specs.Demand2.Built.{placed-on, Built, at-first, one-more}
+
+-- When the data of edge e is on processor j, by these rows.
+abbrev pub arrives : Workflow → List Placed → ℕ → ℕ → ℕ
+arrives W rows j e = arrival W (λ p. row-of rows p .processor) (λ p. row-of rows p .finish) j e
+
+pub start-not-before-arrival : (W : Workflow) (rows : List Placed) (i j e : ℕ) → e < W .edges → W .to e ≡ i → arrives W rows j e ≤ start-of W rows i j
+unfolding start-of ready-for ready
+start-not-before-arrival W rows i j e l to-i =
+    let inputs : ℕ → ℕ = λ x. cond (eqb (W .to x) i) (arrives W rows j x) 0 in
+    let at-ready = rw (eq-eqb (W .to e) i to-i) at (at-most-largest (W .edges) inputs e l) in
+    omega (arith, at-ready, start-not-before-ready (busy rows j) (ready-for W rows i j) (W .minutes i j))
+
+arrives-still :
+    (W : Workflow) (p : Placed) (before : List Placed) → is-placed before (p .task) ≡ false → (j e : ℕ) → is-placed before (W .from e) ≡ true
+    → arrives W (p ∷ before) j e ≡ arrives W before j e
+unfolding arrival
+arrives-still W p before free j e placed = rw (old-row p before free (W .from e) placed)
+
+module _ (M : Method) (W : Workflow) (good : GoodWorkflow W) (acyclic : (i : ℕ) → Leads W i i → ⊥) where
+  pub rows-arrived :
+      {rows : List Placed} → Built M W rows → (i : ℕ) → is-placed rows i ≡ true → (e : ℕ) → e < W .edges → W .to e ≡ i
+      → (is-placed rows (W .from e) ≡ true) × (arrives W rows (row-of rows i .processor) e ≤ row-of rows i .start)
+  unfolding row-on
+  rows-arrived at-first = λ i h. absurd (none-placed i h)
+  rows-arrived (one-more {before = before} {i = n} {j = j} built next) =
+      let p = placed-on W before n j in
+      each-row p before
+      (λ i r.
+      (e : ℕ) → e < W .edges → W .to e ≡ i
+      → (is-placed (p ∷ before) (W .from e) ≡ true) × (arrives W (p ∷ before) (r .processor) e ≤ r .start))
+      (λ e l to-n.
+      let placed = predecessors-placed W good acyclic (is-placed before) e l (to-n ∙ sym (next .is-next)) in
+      let arrived = start-not-before-arrival W before n j e l to-n in
+      (old-placed p before (W .from e) placed, rw (arrives-still W p before (next .free) j e placed) arrived))
+      (λ i h e l to-i.
+      let (placed, arrived) = rows-arrived built i h e l to-i in
+      (old-placed p before (W .from e) placed, rw (arrives-still W p before (next .free) (row-of before i .processor) e placed) arrived))

@@ -1,0 +1,125 @@
+-- Demand 2: the plan is the method's, and a refusal is due.
+use Prim.Native.Nat.{ℕ, _+_, _-_, _≤_, _<_}
+use mathlib.Core.Path.{_≡_, refl}
+use mathlib.Core.Bool.{true, false}
+use mathlib.Core.List.{List}
+use mathlib.Core.Logic.{_≢_}
+use native.Mathlib.Omega.{arith}
+use lib.ListN.{length}
+use lib.Dec.{ltb}
+use borrow.Author.Tests.{ltb-true, ltb-false}
+use Rattle.rules.specs.Folds.{sum, largest}
+use Rattle.rules.specs.Records.{read}
+use Rattle.rules.specs.Reading.{Request, read-request}
+use Rattle.rules.specs.Workflow.{Workflow, workflow}
+use Rattle.rules.specs.Cycle.{Leads, cyclic, lowest-in-cycle}
+use Rattle.rules.specs.Ranks.{cheapest-total, rank-by, R}
+use Rattle.rules.specs.Rows.{Placed, row-of, is-placed, spent, length-of}
+use Rattle.rules.specs.Method.{HBCS}
+use Rattle.rules.specs.Answer.{Outcome, plan, refusal, too-late, placed-outcome, outcome-by, outcome}
+use Rattle.laws.specs.Unmarked.{count-unmarked, none-unmarked}
+use Rattle.laws.specs.Cycles.{LowestInCycle, none-leads-back, lowest-in-cycle-lowest}
+use Rattle.laws.specs.Ranks.{R-equation}
+use Rattle.demands.specs.Demand2.Refusals.{refuse-either}
+use Rattle.demands.specs.Ground.GoodWorkflow.{GoodWorkflow, good-workflow}
+use Rattle.demands.specs.Ground.GoodRequest.{outcome-of-good}
+use Rattle.demands.specs.Demand2.Built.{built-count}
+use Rattle.demands.specs.Demand2.Steps.{EachStep, AsTheMethod, steps-as-the-method}
+use Rattle.demands.specs.Demand2.Sound.{RowTrue, Apart, rows-true, rows-apart}
+use Rattle.demands.specs.Demand2.Arrived.{arrives, rows-arrived}
+use Rattle.demands.specs.Demand2.Affordable.{AllPlaced, HBCS-places-all}
+use Rattle.demands.specs.Demand2.Totals.{spent-is-sum, length-is-largest}
+use Rattle.demands.specs.Demand2.Cheapest.{Assignment, costs-in-all, cheapest-at-most-any, cheapest-attained}
+
+-- A plan of W: the tasks in the order of placing, the newest first.
+pub record MethodsPlan (W : Workflow) (rows : List Placed) : Type 0 where
+  -- R is what document 01's equation says, and each task is placed, once, as the method says.
+  pub ranks : (i : ℕ) → i < W .tasks → R W i ≡ rank-by W (R W) i
+  pub all-placed : (i : ℕ) → i < W .tasks → is-placed rows i ≡ true
+  pub none-twice : length rows ≡ W .tasks
+  pub steps : EachStep (AsTheMethod W) rows
+  -- Rows are true, no processor runs two tasks at once, and no task starts before its inputs arrived.
+  pub rows-true : (i : ℕ) → i < W .tasks → RowTrue W i (row-of rows i)
+  pub apart : (i k : ℕ) → i < W .tasks → k < W .tasks → i ≢ k → Apart (row-of rows i) (row-of rows k)
+  pub arrived : (e : ℕ) → e < W .edges → arrives W rows (row-of rows (W .to e) .processor) e ≤ row-of rows (W .to e) .start
+  -- The summary: length, cost, budget left.
+  pub length-largest : length-of rows ≡ largest (W .tasks) (λ i. row-of rows i .finish)
+  pub cost-sum : spent rows ≡ sum (W .tasks) (λ i. row-of rows i .cost)
+  pub left-over : spent rows + (W .budget - spent rows) ≡ W .budget
+
+-- No rows are missing, and there is no cycle.
+pub record Placeable (W : Workflow) (lent : ℕ) : Type 0 where
+  pub enough-rows : W .tasks ≤ lent
+  pub acyclic : (i : ℕ) → Leads W i i → ⊥
+
+-- Every choice of processors costs more than the budget; and the cheapest costs `total`.
+pub record TooDear (W : Workflow) (total : ℕ) : Type 0 where
+  pub above : (on : ℕ → ℕ) → Assignment W on → W .budget < costs-in-all W on
+  pub at-least : (on : ℕ → ℕ) → Assignment W on → total ≤ costs-in-all W on
+  pub cheapest : (on : ℕ → ℕ) × Assignment W on × (costs-in-all W on ≡ total)
+
+-- What is due for a workflow and so many rows lent. 10 is never due.
+pub data Due (W : Workflow) (lent : ℕ) : Outcome → Type 0 where
+  seven : lent < W .tasks → Due W lent (refusal 7 (W .tasks))
+  eight : {i : ℕ} → W .tasks ≤ lent → LowestInCycle W i → Due W lent (refusal 8 i)
+  nine : {total : ℕ} → Placeable W lent → TooDear W total → Due W lent (refusal 9 total)
+  eleven :
+      {rows : List Placed} → Placeable W lent → MethodsPlan W rows → too-late (W .deadline) (length-of rows) ≡ true
+      → Due W lent (refusal 11 (length-of rows))
+  planned : {rows : List Placed} → Placeable W lent → MethodsPlan W rows → too-late (W .deadline) (length-of rows) ≡ false → Due W lent (plan W rows)
+
+pub plan-is-the-methods : (W : Workflow) → GoodWorkflow W → (lent : ℕ) → Due W lent (outcome-by HBCS W lent)
+unfolding outcome-by placed-outcome
+plan-is-the-methods W good lent =
+    refuse-either (Due W lent) (ltb lent (W .tasks)) 7 (W .tasks) _ (λ few. seven (ltb-true lent (W .tasks) few)) (λ enough.
+    refuse-either (Due W lent) (cyclic W) 8 (lowest-in-cycle W) _
+    (λ cycle. eight (ltb-false lent (W .tasks) enough) (lowest-in-cycle-lowest W (good .to) cycle))
+    (λ acyclic.
+    let placeable : Placeable W lent = record { enough-rows = ltb-false lent (W .tasks) enough; acyclic = none-leads-back W (good .to) acyclic } in
+    refuse-either (Due W lent) (ltb (W .budget) (cheapest-total W)) 9 (cheapest-total W) _
+    (λ dear. nine placeable (too-dear (ltb-true (W .budget) (cheapest-total W) dear)))
+    (λ within.
+    let (rows, all) = HBCS-places-all W (good .processors) (ltb-false (W .budget) (cheapest-total W) within) in
+    let p = methods-plan (placeable .acyclic) rows all in
+    rw (all .placed)
+    (refuse-either (Due W lent) (too-late (W .deadline) (length-of rows)) 11 (length-of rows) (plan W rows) (eleven placeable p) (planned placeable p)))))
+  where
+    too-dear : W .budget < cheapest-total W → TooDear W (cheapest-total W)
+    too-dear dear =
+        record {
+          above = λ on each. omega (arith, cheapest-at-most-any W on each);
+          at-least = cheapest-at-most-any W;
+          cheapest = cheapest-attained W (good .processors);
+        }
+
+    methods-plan : ((i : ℕ) → Leads W i i → ⊥) → (rows : List Placed) → AllPlaced HBCS W rows → MethodsPlan W rows
+    methods-plan acyclic rows all-of-them =
+        let built = all-of-them .built in
+        let none-left : count-unmarked (W .tasks) (is-placed rows) ≡ 0 = omega (arith, built-count HBCS W built, all-of-them .count) in
+        let all = none-unmarked (is-placed rows) (W .tasks) none-left in
+        record {
+          ranks = R-equation W (good .to) acyclic;
+          all-placed = all;
+          none-twice = all-of-them .count;
+          steps = steps-as-the-method W (good .processors) built;
+          rows-true = λ i l. rows-true HBCS W built i (all i l);
+          apart = λ i k l m. rows-apart HBCS W built i k (all i l) (all k m);
+          arrived = λ e l. rows-arrived HBCS W good acyclic built (W .to e) (all (W .to e) (good .to e l)) e l refl .1;
+          length-largest = length-is-largest HBCS W built;
+          cost-sum = spent-is-sum HBCS W built;
+          left-over = omega (arith, all-of-them .fits);
+        }
+
+-- "some task has no processor it may take" never comes.
+pub ten-is-never-due : {W : Workflow} {lent : ℕ} {outcome : Outcome} → Due W lent outcome → (i : ℕ) → outcome ≡ refusal 10 i → ⊥
+ten-is-never-due (seven few) i e = let z : _≡_ {A = ℕ} 7 10 = cc in omega arith
+ten-is-never-due (eight enough lowest) i e = let z : _≡_ {A = ℕ} 8 10 = cc in omega arith
+ten-is-never-due (nine placeable dear) i e = let z : _≡_ {A = ℕ} 9 10 = cc in omega arith
+ten-is-never-due (eleven placeable p late) i e = let z : _≡_ {A = ℕ} 11 10 = cc in omega arith
+ten-is-never-due (planned placeable p in-time) i e = let z : _≡_ {A = ℕ} 0 1 = cc in omega arith
+
+-- A request that passes reading gets what is due to its workflow.
+pub requests-get-their-due :
+    (s : List ℕ) {end : ℕ} {r : Request} → read-request s ≡ read end r → (lent : ℕ) → Due (workflow s r) lent (outcome s lent)
+requests-get-their-due s {r = r} good lent =
+    rw (outcome-of-good s good lent) (plan-is-the-methods (workflow s r) (good-workflow s good) lent)

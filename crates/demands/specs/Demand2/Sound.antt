@@ -1,0 +1,87 @@
+-- The rows of a plan are true, and no processor runs two tasks at once: a new row is made so, and is clear of all that its processor is
+-- busy with.
+use Prim.Native.Nat.{ℕ, _+_, _≤_, _<_}
+use mathlib.Core.Path.{_≡_, refl, sym}
+use mathlib.Core.Bool.{Bool, true, false, cond}
+use mathlib.Core.List.{List, _∷_, List·Memᴰ, List·Memᴰ·head, List·Memᴰ·tail}
+use mathlib.Core.Logic.{_⊎_, ⊎-swap, _≢_}
+use lib.Dec.{eqb}
+use borrow.Author.Tests.{eq-eqb}
+use Rattle.rules.specs.Workflow.{Workflow}
+use Rattle.rules.specs.Ranks.{cost}
+use Rattle.rules.specs.Start.{Interval}
+use Rattle.rules.specs.Rows.{Row, Placed, row-of, is-placed, busy}
+use Rattle.rules.specs.Method.{Method}
+use Rattle.rules.specs.Placing.{ready-for, start-of, finish-of, row-on}
+use Rattle.demands.specs.StartLaws.{start-overlaps-nothing}
+use Rattle.demands.specs.Demand2.Lookup.{none-placed, each-row}
+use Rattle.demands.specs.Demand2.Built.{placed-on, Built, at-first, one-more}
+
+-- "Finish = start + w." "cost(i,j) = w(i,j) x price(j)"
+pub record RowTrue (W : Workflow) (i : ℕ) (r : Row) : Type 0 where
+  pub task : i < W .tasks
+  pub processor : r .processor < W .processors
+  pub finish : r .finish ≡ r .start + W .minutes i (r .processor)
+  pub cost : r .cost ≡ cost W i (r .processor)
+
+-- On one processor the one ends before the other begins.
+abbrev pub Apart : Row → Row → Type 0
+Apart r r′ = r .processor ≡ r′ .processor → (r .finish ≤ r′ .start) ⊎ (r′ .finish ≤ r .start)
+
+-- The interval that a row takes up.
+abbrev taken-up : Row → Interval
+taken-up r = record { begin = r .start; end = r .finish }
+
+new-busy : (p : Placed) (before : List Placed) → List·Memᴰ (taken-up (p .row)) (busy (p ∷ before) (p .row .processor))
+unfolding busy
+new-busy p before = rw (eq-eqb (p .row .processor) (p .row .processor) refl) (List·Memᴰ·head refl)
+
+old-busy : (p : Placed) (before : List Placed) (j : ℕ) {v : Interval} → List·Memᴰ v (busy before j) → List·Memᴰ v (busy (p ∷ before) j)
+unfolding busy
+old-busy p before j {v} m = go (eqb (p .row .processor) j)
+  where
+    go : (t : Bool) → List·Memᴰ v (cond t (taken-up (p .row) ∷ busy before j) (busy before j))
+    go true = List·Memᴰ·tail m
+    go false = m
+
+module _ (M : Method) (W : Workflow) where
+  pub rows-true : {rows : List Placed} → Built M W rows → (i : ℕ) → is-placed rows i ≡ true → RowTrue W i (row-of rows i)
+  unfolding row-on finish-of
+  rows-true at-first = λ i h. absurd (none-placed i h)
+  rows-true (one-more {before = before} {i = n} {j = j} built next) =
+      each-row (placed-on W before n j) before (RowTrue W) (record { task = next .task; processor = next .processor; finish = refl; cost = refl })
+      (rows-true built)
+
+  -- A processor is busy with each row that is on it.
+  rows-busy :
+      {rows : List Placed} → Built M W rows → (i : ℕ) → is-placed rows i ≡ true
+      → List·Memᴰ (taken-up (row-of rows i)) (busy rows (row-of rows i .processor))
+  rows-busy at-first = λ i h. absurd (none-placed i h)
+  rows-busy (one-more {before = before} {i = n} {j = j} built next) =
+      let p = placed-on W before n j in
+      each-row p before (λ i r. List·Memᴰ (taken-up r) (busy (p ∷ before) (r .processor))) (new-busy p before)
+      (λ i h. old-busy p before (row-of before i .processor) (rows-busy built i h))
+
+  -- A new row is clear of each row that is on its processor.
+  new-apart :
+      {before : List Placed} → Built M W before → (n j k : ℕ) → is-placed before k ≡ true → j ≡ row-of before k .processor
+      → (row-of before k .finish ≤ start-of W before n j) ⊎ (finish-of W before n j ≤ row-of before k .start)
+  unfolding start-of finish-of
+  new-apart {before} built n j k placed same =
+      start-overlaps-nothing (busy before j) (ready-for W before n j) (W .minutes n j) (taken-up (row-of before k))
+      (rw same (rows-busy built k placed))
+
+  pub rows-apart :
+      {rows : List Placed} → Built M W rows → (i k : ℕ) → is-placed rows i ≡ true → is-placed rows k ≡ true → i ≢ k
+      → Apart (row-of rows i) (row-of rows k)
+  unfolding row-on
+  rows-apart at-first = λ i k h g differ. absurd (none-placed i h)
+  rows-apart (one-more {before = before} {i = n} {j = j} built next) = λ i k h g.
+      let p = placed-on W before n j in
+      each-row p before (λ x r. x ≢ k → Apart r (row-of (p ∷ before) k))
+      (each-row p before (λ y r. n ≢ y → Apart (p .row) r) (λ differ. absurd (differ refl))
+      (λ y placed differ same. ⊎-swap (new-apart built n j y placed same)) k g)
+      (λ x placed.
+      each-row p before (λ y r. x ≢ y → Apart (row-of before x) r) (λ differ same. new-apart built n j x placed (sym same))
+      (λ y placed′. rows-apart built x y placed placed′) k g)
+      i h

@@ -1,0 +1,60 @@
+-- Document 01 leaves no choice: one task has the highest R and then the lowest number, and one processor wins. So two plans made as the
+-- method says are one.
+use Prim.Native.Nat.{ℕ, _<_}
+use mathlib.Core.Path.{_≡_, refl, sym, ap₂, _∙_, subst}
+use mathlib.Core.Bool.{Bool, false}
+use mathlib.Core.List.{List, [], _∷_}
+use native.Mathlib.Omega.{arith}
+use native.Mathlib.Nat.{suc-inj}
+use lib.ListN.{length}
+use Rattle.rules.specs.Workflow.{Workflow}
+use Rattle.rules.specs.Ranks.{R}
+use Rattle.rules.specs.Rows.{Placed, is-placed}
+use Rattle.rules.specs.Method.{Question, score}
+use Rattle.rules.specs.Placing.{question, row-on}
+use Rattle.demands.specs.Demand2.Order.{HighestLeft}
+use Rattle.demands.specs.Demand2.HBCSChoice.{Wins}
+use Rattle.demands.specs.Demand2.Steps.{EachStep, AsTheMethod}
+
+wins-settled : (q : Question) (j j′ : ℕ) → Wins q j → Wins q j′ → j ≡ j′
+wins-settled q j j′ w w′ =
+    let highest = w .highest j′ (w′ .processor) (w′ .may) in
+    let highest′ = w′ .highest j (w .processor) (w .may) in
+    let score-same : score q j ≡ score q j′ = omega arith in
+    let earliest = w .then-earliest j′ (w′ .processor) (w′ .may) (sym score-same) in
+    let earliest′ = w′ .then-earliest j (w .processor) (w .may) score-same in
+    let finish-same : q .finish j ≡ q .finish j′ = omega arith in
+    let lowest = w .then-lowest j′ (w′ .processor) (w′ .may) (sym score-same) (sym finish-same) in
+    let lowest′ = w′ .then-lowest j (w .processor) (w .may) score-same finish-same in
+    omega arith
+
+module _ (W : Workflow) where
+  highest-settled :
+      (placed : ℕ → Bool) (i i′ : ℕ) → i < W .tasks → i′ < W .tasks → placed i ≡ false → placed i′ ≡ false
+      → HighestLeft W placed i → HighestLeft W placed i′ → i ≡ i′
+  highest-settled placed i i′ task task′ left left′ h h′ =
+      let highest = h .highest i′ task′ left′ in
+      let highest′ = h′ .highest i task left in
+      let rank-same : R W i ≡ R W i′ = omega arith in
+      let lowest = h .then-lowest i′ task′ left′ (sym rank-same) in
+      let lowest′ = h′ .then-lowest i task left rank-same in
+      omega arith
+
+  step-settled : (before : List Placed) (p p′ : Placed) → AsTheMethod W before p → AsTheMethod W before p′ → p ≡ p′
+  step-settled before p p′ h h′ =
+      let task =
+      highest-settled (is-placed before) (p .task) (p′ .task) (h .task) (h′ .task) (h .left) (h′ .left) (h .highest-left) (h′ .highest-left) in
+      let wins′ = subst (λ i. Wins (question W before i) (p′ .row .processor)) (sym task) (h′ .wins) in
+      let processor = wins-settled (question W before (p .task)) (p .row .processor) (p′ .row .processor) (h .wins) wins′ in
+      let row : p .row ≡ p′ .row = h .row ∙ ap₂ (row-on W before) task processor ∙ sym (h′ .row) in
+      λ t. record { task = task t; row = row t }
+
+  pub steps-settled :
+      (rows rows′ : List Placed) → EachStep (AsTheMethod W) rows → EachStep (AsTheMethod W) rows′ → length rows ≡ length rows′
+      → rows ≡ rows′
+  steps-settled [] [] h h′ e = refl
+  steps-settled [] (p′ ∷ before′) h h′ e = absurd (omega arith)
+  steps-settled (p ∷ before) [] h h′ e = absurd (omega arith)
+  steps-settled (p ∷ before) (p′ ∷ before′) h h′ e =
+      let same : before ≡ before′ = steps-settled before before′ (h .1) (h′ .1) (suc-inj e) in
+      ap₂ _∷_ (step-settled before p p′ (h .0) (subst (λ b. AsTheMethod W b p′) (sym same) (h′ .0))) same
