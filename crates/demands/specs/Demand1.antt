@@ -32,6 +32,7 @@ use Rattle.rules.specs.Workflow.{workflow, task-place}
 use Rattle.rules.specs.Labels.{label-place, label-lookup, label}
 use Rattle.rules.specs.Rows.{Row}
 use Rattle.rules.specs.Answer.{Outcome, plan, refusal, outcome, refused, answer-of, answer, written, rows-after}
+use Rattle.rules.specs.Buffers.{Buffers, rows-lent, column-after, buffers-written, buffers-after}
 use Rattle.rules.specs.Text.{text, program}
 use Rattle.good.specs.ReadIsGood.{read-is-good}
 use Rattle.good.specs.RangeLaws.{good-length}
@@ -44,7 +45,7 @@ use Rattle.demands.specs.Demand1.Reading.{reading-stops, fault-stops, re
 use Rattle.demands.specs.Demand1.LabelBytes.{label-bytes-length, label-byte, label-byte-listed, each-member}
 use Rattle.demands.specs.Ground.GoodWorkflow.{good-workflow}
 use Rattle.demands.specs.Ground.GoodRequest.{outcome-of-good, outcome-of-stopped}
-use Rattle.demands.specs.Demand2.Due.{Due, requests-get-their-due}
+use Rattle.demands.specs.Demand2.WhatIsDue.{Due, requests-get-their-due}
 use Rattle.demands.specs.Demand2.DueSettled.{due-is-outcome}
 
 -- "It returns the label, without its spaces, as a part of the caller's own bytes": the label field in the record of task i is 1 to 8 bytes of
@@ -151,3 +152,9 @@ pub refusal-changes-no-row :
     (s : List ℕ) (rows : List Row) {number place : ℕ} → answer s (length rows) ≡ refused number place → rows-after s rows ≡ rows
 unfolding answer rows-after written
 refusal-changes-no-row s rows e = rw (refused-outcome (outcome s (length rows)) e)
+
+-- Nor one of four buffers, whatever their lengths.
+pub refusal-changes-no-buffer :
+    (s : List ℕ) (lent : Buffers) {number place : ℕ} → answer s (rows-lent lent) ≡ refused number place → buffers-after s lent ≡ lent
+unfolding answer buffers-after buffers-written column-after
+refusal-changes-no-buffer s lent e = rw (refused-outcome (outcome s (rows-lent lent)) e)

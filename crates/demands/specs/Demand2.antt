@@ -1,4 +1,7 @@
--- Demand 2: the plan is the method's, and a refusal is due.
+-- Demand 2: the plan is the method's. Stated of what the caller gets: the answer, and the rows after the call, in lent rows or in four buffers.
+-- Below: what is due for a workflow, refusals too (`WhatIsDue`), and that it is settled (`DueSettled`); the order of the tasks (`PlacingOrder`); the choice
+-- for each in document 01's words (`ChoiceAsWritten`) and as equation (10) (`Worthiness`); R and HEFT's rank (`HEFTRank`, `HEFTSettled`); when money
+-- is the reason (`RefusalNine`). The other files are what these rest on.
 pub mod Lookup
 pub mod Refusals
 pub mod HBCSChoice
@@ -12,10 +15,188 @@ pub mod Totals
 pub mod Cheapest
 pub mod Steps
 pub mod StepsSettled
-pub mod Due
+pub mod WhatIsDue
 pub mod DueSettled
 pub mod PlacingOrder
 pub mod RefusalNine
 pub mod HEFTRank
 pub mod HEFTSettled
 pub mod ChoiceAsWritten
+use Prim.Native.Nat.{ℕ, _+_, _-_, _≤_, _<_}
+use mathlib.Core.Path.{_≡_, refl, sym, ap, subst, _∙_}
+use mathlib.Core.Bool.{false}
+use mathlib.Core.List.{List}
+use mathlib.Core.Logic.{_≢_}
+use native.Mathlib.Omega.{arith}
+use lib.ListN.{length, drop, getD}
+use Rattle.rules.specs.Folds.{sum, largest}
+use Rattle.rules.specs.Records.{Read, read, stopped}
+use Rattle.rules.specs.Reading.{Request, read-request}
+use Rattle.rules.specs.Workflow.{Workflow, workflow}
+use Rattle.rules.specs.Start.{arrival}
+use Rattle.rules.specs.Rows.{Row, Placed, no-row, row-of, spent, length-of}
+use Rattle.rules.specs.Answer.{Outcome, plan, refusal, too-late, outcome, planned, answer-of, answer, written, rows-after}
+use Rattle.rules.specs.Buffers.{Buffers, rows-lent, row-in, buffers-after}
+use Rattle.laws.specs.Folds.{sum-same, largest-same}
+use Rattle.laws.specs.Overwritten.{length-overwritten}
+use Rattle.demands.specs.Ground.GoodWorkflow.{GoodWorkflow, good-workflow}
+use Rattle.demands.specs.Ground.GoodRequest.{outcome-of-stopped}
+use Rattle.demands.specs.Ground.Held.{row-written, row-in-written, StaysFrom, later-rows-kept, later-numbers-kept}
+use Rattle.demands.specs.Demand1.Stands.{PassesReading}
+use Rattle.demands.specs.Demand1.Reading.{read-iff-passes}
+use Rattle.demands.specs.Demand2.Sound.{RowTrue, Apart}
+use Rattle.demands.specs.Demand2.WhatIsDue as due
+use Rattle.demands.specs.Demand2.WhatIsDue.{MethodsPlan, Placeable, Due, requests-get-their-due}
+
+-- What a plan's answer and rows say of the workflow W, where `row i` is what the caller holds as row i.
+pub record PlanHeld (W : Workflow) (n l c left : ℕ) (row : ℕ → Row) : Type 0 where
+  -- The summary: "n, length, cost, budget left".
+  pub tasks : n ≡ W .tasks
+  pub length-largest : l ≡ largest n (λ i. row i .finish)
+  pub cost-sum : c ≡ sum n (λ i. row i .cost)
+  pub budget-shared : c + left ≡ W .budget
+  pub in-time : too-late (W .deadline) l ≡ false
+  -- Each row is true, no processor runs two tasks at once, and no task starts before its inputs arrived.
+  pub rows-true : (i : ℕ) → i < n → RowTrue W i (row i)
+  pub apart : (i k : ℕ) → i < n → k < n → i ≢ k → Apart (row i) (row k)
+  pub arrived : (e : ℕ) → e < W .edges →
+      arrival W (λ p. row p .processor) (λ p. row p .finish) (row (W .to e) .processor) e ≤ row (W .to e) .start
+  -- The rows are those of the method's plan: each task in its order, on the processor that the method chooses, at the start that the rule gives.
+  pub placed : List Placed
+  pub methods-plan : MethodsPlan W placed
+  pub rows-placed : (i : ℕ) → i < n → row i ≡ row-of placed i
+
+-- What is held of a request that passes reading, with at least as many rows lent as it has tasks, and with no cycle.
+pub record PlanGot (s : List ℕ) (lent n l c left : ℕ) (row : ℕ → Row) : Type 0 where
+  pub request : Request
+  pub passes : PassesReading s request
+  pub placeable : Placeable (workflow s request) lent
+  pub held : PlanHeld (workflow s request) n l c left row
+
+-- Whoever holds the rows of the method's plan holds this.
+held-by :
+    (W : Workflow) → GoodWorkflow W → (rows : List Placed) → MethodsPlan W rows → too-late (W .deadline) (length-of rows) ≡ false → (row : ℕ → Row)
+    → ((i : ℕ) → i < W .tasks → row i ≡ row-of rows i) → PlanHeld W (W .tasks) (length-of rows) (spent rows) (W .budget - spent rows) row
+unfolding arrival
+held-by W good rows p in-time row same =
+    record {
+      tasks = refl;
+      length-largest = p .length-largest ∙ sym (largest-same (W .tasks) _ _ (λ i h. ap (λ r. r .finish) (same i h)));
+      cost-sum = p .cost-sum ∙ sym (sum-same (W .tasks) _ _ (λ i h. ap (λ r. r .cost) (same i h)));
+      budget-shared = p .left-over;
+      in-time = in-time;
+      rows-true = λ i h. rw (same i h) (p .rows-true i h);
+      apart = λ i k h g. rw (same i h, same k g) (p .apart i k h g);
+      arrived = λ e h. rw (same (W .from e) (good .from e h), same (W .to e) (good .to e h)) (p .arrived e h);
+      placed = rows;
+      methods-plan = p;
+      rows-placed = same;
+    }
+
+-- The outcome behind a plan's answer.
+record PlanBehind (s : List ℕ) (lent n l c left : ℕ) : Type 0 where
+  request : Request
+  read-to : ℕ
+  is-read : read-request s ≡ read read-to request
+  rows : List Placed
+  outcome-is : outcome s lent ≡ plan (workflow s request) rows
+  answer-is : planned n l c left ≡ answer-of (plan (workflow s request) rows)
+  placeable : Placeable (workflow s request) lent
+  methods-plan : MethodsPlan (workflow s request) rows
+  in-time : too-late (workflow s request .deadline) (length-of rows) ≡ false
+
+tasks-told : {s : List ℕ} {lent n l c left : ℕ} → (b : PlanBehind s lent n l c left) → n ≡ workflow s (b .request) .tasks
+unfolding answer-of
+tasks-told b = cc (b .answer-is)
+
+module _ (s : List ℕ) (lent : ℕ) {n l c left : ℕ} (e : answer s lent ≡ planned n l c left) where
+  plan-behind : PlanBehind s lent n l c left
+  unfolding answer answer-of
+  plan-behind = go (read-request s) refl
+    where
+      by-due :
+          {end : ℕ} {r : Request} {o : Outcome} → read-request s ≡ read end r → Due (workflow s r) lent o → outcome s lent ≡ o
+          → answer-of o ≡ planned n l c left → PlanBehind s lent n l c left
+      by-due is (due.seven few) given told = let z : _≡_ {A = ℕ} 0 1 = cc in absurd (omega arith)
+      by-due is (due.eight enough lowest) given told = let z : _≡_ {A = ℕ} 0 1 = cc in absurd (omega arith)
+      by-due is (due.nine placeable dear) given told = let z : _≡_ {A = ℕ} 0 1 = cc in absurd (omega arith)
+      by-due is (due.eleven placeable p late) given told = let z : _≡_ {A = ℕ} 0 1 = cc in absurd (omega arith)
+      by-due {end} {r} is (due.planned {rows = rows} placeable p in-time) given told =
+          record {
+            request = r;
+            read-to = end;
+            is-read = is;
+            rows = rows;
+            outcome-is = given;
+            answer-is = sym told;
+            placeable = placeable;
+            methods-plan = p;
+            in-time = in-time;
+          }
+
+      go : (x : Read Request) → read-request s ≡ x → PlanBehind s lent n l c left
+      go (read end r) is = by-due is (requests-get-their-due s is lent) refl e
+      go (stopped number place) is =
+          let told : answer-of (refusal number place) ≡ planned n l c left = ap answer-of (sym (outcome-of-stopped s is lent)) ∙ e in
+          let z : _≡_ {A = ℕ} 0 1 = cc in
+          absurd (omega arith)
+
+  -- Whoever holds the rows of that outcome holds such a plan.
+  plan-held :
+      (row : ℕ → Row) → ((W : Workflow) (rows : List Placed) → outcome s lent ≡ plan W rows → (i : ℕ) → i < W .tasks → row i ≡ row-of rows i)
+      → PlanGot s lent n l c left row
+  unfolding answer-of
+  plan-held row holds =
+      let b = plan-behind in
+      let W = workflow s (b .request) in
+      record {
+        request = b .request;
+        passes = read-iff-passes s (b .request) .0 (b .read-to, b .is-read);
+        placeable = b .placeable;
+        held =
+            told (cc (b .answer-is)) (cc (b .answer-is)) (cc (b .answer-is)) (cc (b .answer-is))
+            (held-by W (good-workflow s (b .is-read)) (b .rows) (b .methods-plan) (b .in-time) row (holds W (b .rows) (b .outcome-is)));
+      }
+    where
+      told :
+          {W : Workflow} {n′ l′ c′ left′ : ℕ} {row : ℕ → Row} → n ≡ n′ → l ≡ l′ → c ≡ c′ → left ≡ left′ → PlanHeld W n′ l′ c′ left′ row
+          → PlanHeld W n l c left row
+      told tasks long costs rest held = rw (tasks, long, costs, rest) held
+
+-- A plan in lent rows: of its first n rows.
+pub plan-in-rows : (s : List ℕ) (lent : List Row) {n l c left : ℕ} → answer s (length lent) ≡ planned n l c left
+    → PlanGot s (length lent) n l c left (λ i. getD (rows-after s lent) i no-row)
+unfolding rows-after
+plan-in-rows s lent e = plan-held s (length lent) e _ (λ W rows is i task. row-written i task (outcome s (length lent)) lent is)
+
+-- A plan in four buffers of any lengths: of the first n numbers of each.
+pub plan-in-buffers : (s : List ℕ) (lent : Buffers) {n l c left : ℕ} → answer s (rows-lent lent) ≡ planned n l c left
+    → PlanGot s (rows-lent lent) n l c left (row-in (buffers-after s lent))
+unfolding buffers-after
+plan-in-buffers s lent e = plan-held s (rows-lent lent) e _ (λ W rows is i task. row-in-written i task (outcome s (rows-lent lent)) lent is)
+
+-- "Rows from n on keep their content."
+pub later-rows-stay : (s : List ℕ) (lent : List Row) {n l c left : ℕ} → answer s (length lent) ≡ planned n l c left
+    → drop n (rows-after s lent) ≡ drop n lent
+unfolding rows-after
+later-rows-stay s lent {n} e =
+    let b = plan-behind s (length lent) e in
+    subst (λ k. drop k (rows-after s lent) ≡ drop k lent) (sym (tasks-told b)) (later-rows-kept (outcome s (length lent)) lent (b .outcome-is))
+
+pub later-numbers-stay : (s : List ℕ) (lent : Buffers) {n l c left : ℕ} → answer s (rows-lent lent) ≡ planned n l c left
+    → StaysFrom n lent (buffers-after s lent)
+unfolding buffers-after
+later-numbers-stay s lent {n} e =
+    let b = plan-behind s (rows-lent lent) e in
+    subst (λ k. StaysFrom k lent (buffers-after s lent)) (sym (tasks-told b)) (later-numbers-kept (outcome s (rows-lent lent)) lent (b .outcome-is))
+
+-- No row comes or goes.
+pub as-many-rows : (s : List ℕ) (lent : List Row) → length (rows-after s lent) ≡ length lent
+unfolding rows-after answer answer-of written
+as-many-rows s lent = go (outcome s (length lent)) refl
+  where
+    go : (o : Outcome) → outcome s (length lent) ≡ o → length (written o lent) ≡ length lent
+    go (plan W rows) e =
+        let b = plan-behind s (length lent) (ap answer-of e) in
+        length-overwritten (W .tasks) (row-of rows) lent (omega (arith, tasks-told b, b .placeable .enough-rows))
+    go (refusal number place) e = refl

@@ -22,9 +22,10 @@ use Rattle.rules.specs.Workflow.{Workflow, workflow}
 use Rattle.rules.specs.Rows.{Row}
 use Rattle.rules.specs.Method.{HBCS}
 use Rattle.rules.specs.Answer.{outcome-by, outcome, planned, refused, answer-of, answer, written, rows-after}
+use Rattle.rules.specs.Buffers.{Buffers, rows-lent, row-in, buffers-written, buffers-after}
 use Rattle.rules.specs.Multiplied.{multiplied-deadline, multiplied, multiplied-row, multiplied-place, multiplied-answer}
 use Rattle.demands.specs.Demand3.HBCSMultiplied.{HBCS-keeps-choices}
-use Rattle.demands.specs.Demand3.AnswerMultiplied.{multiplied-outcome, outcome-by-multiplied, answer-of-multiplied, written-multiplied}
+use Rattle.demands.specs.Demand3.AnswerMultiplied.{multiplied-outcome, outcome-by-multiplied, answer-of-multiplied, written-multiplied, row-in-multiplied}
 use Rattle.demands.specs.Ground.GoodRequest.{outcome-of-good, ZeroBeyond, workflow-zero-beyond, ends-multiplied, same-everywhere}
 
 -- "all times, transfers and any deadline multiplied by a whole a, prices by a whole b, the budget by a times b": W′ is W so multiplied.
@@ -48,17 +49,22 @@ pub record SamePlan (a b : ℕ) (s t : List ℕ) (lent lent′ : List Row) : Typ
   pub rows : (n l c left : ℕ) → answer s (length lent) ≡ planned n l c left →
       take n (rows-after t lent′) ≡ map (multiplied-row a b) (take n (rows-after s lent))
 
--- "If both pass reading and are lent the same number of rows, they get the same machines or the same refusal number".
-pub multiplied-requests :
+-- The same of four buffers and four others: row i stands in the numbers at i.
+pub record SamePlanInBuffers (a b : ℕ) (s t : List ℕ) (lent lent′ : Buffers) : Type 0 where
+  pub answers : answer t (rows-lent lent′) ≡ multiplied-answer a b (answer s (rows-lent lent))
+  pub rows : (n l c left : ℕ) → answer s (rows-lent lent) ≡ planned n l c left → (i : ℕ) → i < n →
+      row-in (buffers-after t lent′) i ≡ multiplied-row a b (row-in (buffers-after s lent) i)
+
+-- The outcome of the second is the first's, multiplied.
+outcome-multiplied :
     (a b : ℕ) → 1 ≤ a → 1 ≤ b → (s t : List ℕ) {end end′ : ℕ} {r r′ : Request} → read-request s ≡ read end r → read-request t ≡ read end′ r′
-    → MultipliedBy a b (workflow s r) (workflow t r′) → (lent lent′ : List Row) → length lent′ ≡ length lent → SamePlan a b s t lent lent′
-unfolding multiplied answer rows-after
-multiplied-requests a b pa pb s t {r = r} {r′ = r′} good good′ by lent lent′ lengths =
-    record {
-      answers = ap answer-of outcomes ∙ answer-of-multiplied a b pa (outcome s (length lent));
-      rows = λ n l c left e.
-          ap (λ o. take n (written o lent′)) outcomes ∙ written-multiplied a b (outcome s (length lent)) lent lent′ n l c left e;
-    }
+    → MultipliedBy a b (workflow s r) (workflow t r′) → {lent lent′ : ℕ} → lent′ ≡ lent → outcome t lent′ ≡ multiplied-outcome a b (outcome s lent)
+unfolding multiplied
+outcome-multiplied a b pa pb s t {r = r} {r′ = r′} good good′ by {lent} {lent′} lengths =
+    outcome-of-good t good′ lent′
+    ∙ ap₂ (outcome-by HBCS) workflows lengths
+    ∙ outcome-by-multiplied a b pa (workflow s r) pb HBCS HBCS-keeps-choices lent
+    ∙ ap (multiplied-outcome a b) (sym (outcome-of-good s good lent))
   where
     W-ends : ZeroBeyond (workflow s r)
     W-ends = workflow-zero-beyond s r
@@ -83,12 +89,30 @@ multiplied-requests a b pa pb s t {r = r} {r′ = r′} good good′ by lent len
           transfer = λ e. same-everywhere (by .edges) (W′-ends .transfer) (ends-multiplied a (W-ends .transfer)) (by .transfer) e z;
         }
 
-    outcomes : outcome t (length lent′) ≡ multiplied-outcome a b (outcome s (length lent))
-    outcomes =
-        outcome-of-good t good′ (length lent′)
-        ∙ ap₂ (outcome-by HBCS) workflows lengths
-        ∙ outcome-by-multiplied a b pa (workflow s r) pb HBCS HBCS-keeps-choices (length lent)
-        ∙ ap (multiplied-outcome a b) (sym (outcome-of-good s good (length lent)))
+module _ (a b : ℕ) (pa : 1 ≤ a) (pb : 1 ≤ b) (s t : List ℕ) {end end′ : ℕ} {r r′ : Request}
+    (good : read-request s ≡ read end r) (good′ : read-request t ≡ read end′ r′)
+    (by : MultipliedBy a b (workflow s r) (workflow t r′)) where
+  -- "If both pass reading and are lent the same number of rows, they get the same machines or the same refusal number".
+  pub multiplied-requests : (lent lent′ : List Row) → length lent′ ≡ length lent → SamePlan a b s t lent lent′
+  unfolding answer rows-after
+  multiplied-requests lent lent′ lengths =
+      let outcomes = outcome-multiplied a b pa pb s t good good′ by lengths in
+      record {
+        answers = ap answer-of outcomes ∙ answer-of-multiplied a b pa (outcome s (length lent));
+        rows = λ n l c left e.
+            ap (λ o. take n (written o lent′)) outcomes ∙ written-multiplied a b (outcome s (length lent)) lent lent′ n l c left e;
+      }
+
+  pub multiplied-requests-in-buffers : (lent lent′ : Buffers) → rows-lent lent′ ≡ rows-lent lent → SamePlanInBuffers a b s t lent lent′
+  unfolding answer buffers-after
+  multiplied-requests-in-buffers lent lent′ lengths =
+      let outcomes = outcome-multiplied a b pa pb s t good good′ by lengths in
+      record {
+        answers = ap answer-of outcomes ∙ answer-of-multiplied a b pa (outcome s (rows-lent lent));
+        rows = λ n l c left e i h.
+            ap (λ o. row-in (buffers-written o lent′) i) outcomes
+            ∙ row-in-multiplied a b (outcome s (rows-lent lent)) lent lent′ n l c left e i h;
+      }
 
 -- Times that were counted in fives of minutes become minutes, and prices 20 times what they were: then the budget is 100 times what it was.
 pub budget-a-hundred-times : {W W′ : Workflow} → MultipliedBy 5 20 W W′ → W′ .budget ≡ 100 * W .budget

@@ -3,3 +3,4 @@ pub mod MethodLaws
 pub mod Best
 pub mod GoodRequest
 pub mod GoodWorkflow
+pub mod Held

@@ -12,6 +12,7 @@ pub mod Method
 pub mod Rows
 pub mod Placing
 pub mod Answer
+pub mod Buffers
 pub mod Multiplied
 pub mod Text
 pub mod Cases

@@ -16,7 +16,7 @@ use Rattle.laws.specs.Tests.{cond-either}
 use Rattle.laws.specs.Folds.{sum-at-most-each}
 use Rattle.demands.specs.StartLaws.{start-at-most}
 use Rattle.demands.specs.Demand2.Steps.{EachStep, AsTheMethod}
-use Rattle.demands.specs.Demand2.Due.{MethodsPlan}
+use Rattle.demands.specs.Demand2.WhatIsDue.{MethodsPlan}
 use Rattle.hand.specs.HandLaws.{cost-at-most}
 use Rattle.hand.specs.ReadyLaws.{ready-at-most}
 

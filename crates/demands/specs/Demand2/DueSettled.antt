@@ -20,7 +20,7 @@ use Rattle.demands.specs.Demand2.Steps.{steps-as-the-method}
 use Rattle.demands.specs.Demand2.StepsSettled.{steps-settled}
 use Rattle.demands.specs.Demand2.Affordable.{HBCS-places-all}
 use Rattle.demands.specs.Demand2.Cheapest.{costs-in-all, cheapest-at-most-any, cheapest-attained}
-use Rattle.demands.specs.Demand2.Due.{MethodsPlan, Placeable, Due, seven, eight, nine, eleven, planned}
+use Rattle.demands.specs.Demand2.WhatIsDue.{MethodsPlan, Placeable, Due, seven, eight, nine, eleven, planned}
 
 module _ (W : Workflow) (good : GoodWorkflow W) where
   acyclic-settled : ((i : ℕ) → Leads W i i → ⊥) → cyclic W ≡ false

@@ -18,7 +18,7 @@ use Rattle.demands.specs.Demand2.Lookup.{none-placed}
 use Rattle.demands.specs.Ground.GoodWorkflow.{GoodWorkflow}
 use Rattle.demands.specs.Demand2.Order.{HighestLeft, from-ranks-higher}
 use Rattle.demands.specs.Demand2.Steps.{EachStep, AsTheMethod}
-use Rattle.demands.specs.Demand2.Due.{MethodsPlan}
+use Rattle.demands.specs.Demand2.WhatIsDue.{MethodsPlan}
 
 -- Task i is placed, and after it task k: in the list the newest stands first.
 pub data PlacedBefore : List Placed → ℕ → ℕ → Type 0 where

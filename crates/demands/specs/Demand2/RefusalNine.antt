@@ -10,7 +10,7 @@ use Rattle.rules.specs.Ranks.{cheapest-total}
 use Rattle.rules.specs.Answer.{Outcome, refusal, refused, answer}
 use Rattle.demands.specs.Ground.GoodWorkflow.{good-workflow}
 use Rattle.demands.specs.Demand2.Cheapest.{Assignment, costs-in-all, cheapest-at-most-any, cheapest-attained}
-use Rattle.demands.specs.Demand2.Due.{Placeable, TooDear, Due, seven, eight, nine, eleven, planned}
+use Rattle.demands.specs.Demand2.WhatIsDue.{Placeable, TooDear, Due, seven, eight, nine, eleven, planned}
 use Rattle.demands.specs.Demand1.Stands.{PassesReading}
 use Rattle.demands.specs.Demand1.Reading.{read-iff-passes}
 use Rattle.demands.specs.Demand1.{passed-reading, refused-iff-answered, later-refusals-are-due}

@@ -1,6 +1,6 @@
 -- What comes back for a multiplied workflow, by any method that keeps choices: the plan with its rows multiplied, or the same refusal.
-use Prim.Native.Nat.{ℕ, _*_, _≤_}
-use mathlib.Core.Path.{_≡_, refl, ap, _∙_, fun-ext}
+use Prim.Native.Nat.{ℕ, _*_, _≤_, _<_}
+use mathlib.Core.Path.{_≡_, refl, sym, ap, _∙_, fun-ext}
 use mathlib.Core.Bool.{Bool, true, false}
 use mathlib.Core.List.{List, map}
 use native.Mathlib.Nat.{mul-pos}
@@ -16,10 +16,12 @@ use Rattle.rules.specs.Method.{Method}
 use Rattle.rules.specs.Rows.{Row, row-of, length-of}
 use Rattle.rules.specs.Placing.{RB, Placing, so-far, stuck, place}
 use Rattle.rules.specs.Answer.{Outcome, plan, refusal, refuse, too-late, placed-outcome, outcome-by, planned, answer-of, written}
+use Rattle.rules.specs.Buffers.{Buffers, row-in, buffers-written}
 use Rattle.rules.specs.Multiplied.{multiplied-deadline, multiplied, multiplied-row, multiplied-place, multiplied-answer}
 use Rattle.laws.specs.Tests.{ltb-multiplied}
 use Rattle.laws.specs.Listing.{listing-mapped, take-listing}
 use Rattle.demands.specs.Ground.MethodLaws.{KeepsChoices}
+use Rattle.demands.specs.Ground.Held.{row-in-written}
 use Rattle.demands.specs.Demand3.CostsMultiplied.{cheapest-total-multiplied, cyclic-multiplied, lowest-in-cycle-multiplied}
 use Rattle.demands.specs.Demand3.RowsMultiplied.{multiplied-placed, row-of-multiplied, spent-multiplied, length-of-multiplied}
 use Rattle.demands.specs.Demand3.PlacingMultiplied.{multiplied-placing, RB-multiplied, place-multiplied}
@@ -87,3 +89,15 @@ module _ (a b : ℕ) where
       simp (tasks, take-listing)
       (ap (listing (W .tasks)) (fun-ext (row-of-multiplied a b rows)) ∙ listing-mapped (W .tasks) (row-of rows) (multiplied-row a b))
   written-multiplied (refusal number place) lent lent′ n l c left e = let z : _≡_ {A = ℕ} 0 1 = cc in absurd (omega arith)
+
+  -- Row i in four buffers.
+  pub row-in-multiplied :
+      (outcome : Outcome) (lent lent′ : Buffers) (n l c left : ℕ) → answer-of outcome ≡ planned n l c left → (i : ℕ) → i < n
+      → row-in (buffers-written (multiplied-outcome a b outcome) lent′) i ≡ multiplied-row a b (row-in (buffers-written outcome lent) i)
+  unfolding answer-of multiplied-outcome multiplied
+  row-in-multiplied (plan W rows) lent lent′ n l c left e i h =
+      let task : i < W .tasks = let tasks : n ≡ W .tasks = cc in omega arith in
+      row-in-written i task (plan (multiplied a b W) (map (multiplied-placed a b) rows)) lent′ refl
+      ∙ row-of-multiplied a b rows i
+      ∙ ap (multiplied-row a b) (sym (row-in-written i task (plan W rows) lent refl))
+  row-in-multiplied (refusal number place) lent lent′ n l c left e i h = let z : _≡_ {A = ℕ} 0 1 = cc in absurd (omega arith)
