@@ -1,5 +1,5 @@
--- Demand 1: every byte string is answered, one way, and no label off the list gets through. What reading is stands in `Reads`, and what it
--- refuses in `Demand1Reading`.
+-- Demand 1: every byte string is answered, one way, a refusal changes nothing, and no label off the list gets through. Below: what reading is (`Wanted`,
+-- `Reads`), that reading does just that (`Reading`), and the request that stands in the bytes (`Stands`). The other files are what these rest on.
 pub mod Wanted
 pub mod Tells
 pub mod Reads

@@ -5,8 +5,8 @@ use mathlib.Core.List.{List}
 use Rattle.rules.specs.Records.{Read, read, stopped}
 use Rattle.rules.specs.Reading.{Deadline, no-deadline, by, Request}
 use Rattle.rules.specs.Labels as rules
-use Rattle.rules.specs.Answer.{Answer, planned, refused, answer-of}
-use Rattle.planner.specs.Planned.{outcome-into, BuffersAfter}
+use Rattle.rules.specs.Answer.{Answer, planned, refused, answer}
+use Rattle.rules.specs.Buffers.{Buffers, rows-lent, buffers-after}
 use Rattle.exports.specs.declared.ZabgurinReading.{ZabgurinReading}
 use Rattle.exports.specs.declared.ZabgurinPart.{ZabgurinPart}
 use Rattle.exports.specs.declared.ZabgurinAnswer.{ZabgurinAnswer}
@@ -54,6 +54,6 @@ told-answer (planned n length cost left) = record { number = 0; place = 0; tasks
 told-answer (refused number place) = record { number = number; place = place; tasks = 0; length = 0; cost = 0; left = 0 }
 
 -- The answer and the four buffers after the call are the rules'.
-pub record PlanTold (s processors starts finishes costs processors′ starts′ finishes′ costs′ : List ℕ) (r : ZabgurinAnswer) : Type 0 where
-  pub answer-is : r ≡ told-answer (answer-of (outcome-into s processors starts finishes costs))
-  pub after : BuffersAfter s processors starts finishes costs processors′ starts′ finishes′ costs′
+pub record PlanTold (s : List ℕ) (lent after : Buffers) (r : ZabgurinAnswer) : Type 0 where
+  pub answer-is : r ≡ told-answer (answer s (rows-lent lent))
+  pub after-is : after ≡ buffers-after s lent

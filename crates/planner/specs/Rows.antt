@@ -5,63 +5,56 @@ use mathlib.Core.List.{List, map}
 use native.Mathlib.Omega.{arith}
 use lib.ListN.{length, length-map}
 use Rattle.rules.specs.Rows.{Row, row-of}
-use Rattle.rules.specs.Answer.{Outcome, plan, refusal, outcome, answer-of, answer, written, rows-after}
+use Rattle.rules.specs.Answer.{Outcome, plan, refusal, outcome, answer, written, rows-after}
+use Rattle.rules.specs.Buffers.{Buffers, rows-lent, column-after, buffers-written, buffers-after}
 use Rattle.laws.specs.Overwritten.{overwritten-mapped}
 use Rattle.planner.specs.declared.Answer.{Answer}
-use Rattle.planner.specs.Planned.{meant-answer, rows-lent, column-after, PlannedInto}
+use Rattle.planner.specs.Planned.{meant-answer, PlannedInto}
 
--- One field, whatever the outcome.
-column-of-rows : (field : Row → ℕ) (o : Outcome) (lent : List Row) → column-after field o (map field lent) ≡ map field (written o lent)
-unfolding column-after written
-column-of-rows field (plan W rows) lent = overwritten-mapped (W .tasks) (row-of rows) lent field
-column-of-rows field (refusal number place) lent = refl
+-- The fields of rows, each in a buffer of its own.
+unfoldable pub fields : List Row → Buffers
+fields rows =
+    record {
+      processors = map (λ row. row .processor) rows;
+      starts = map (λ row. row .start) rows;
+      finishes = map (λ row. row .finish) rows;
+      costs = map (λ row. row .cost) rows;
+    }
 
-pub column-of-rows-after : (s : List ℕ) (lent : List Row) (field : Row → ℕ)
-    → column-after field (outcome s (length lent)) (map field lent) ≡ map field (rows-after s lent)
-unfolding rows-after
-column-of-rows-after s lent field = column-of-rows field (outcome s (length lent)) lent
+rows-lent-fields : (lent : List Row) → rows-lent (fields lent) ≡ length lent
+unfolding rows-lent fields
+rows-lent-fields lent =
+    omega (
+      arith,
+      length-map lent (λ row. row .processor),
+      length-map lent (λ row. row .start),
+      length-map lent (λ row. row .finish),
+      length-map lent (λ row. row .cost),
+    )
+
+fields-written : (o : Outcome) (lent : List Row) → buffers-written o (fields lent) ≡ fields (written o lent)
+unfolding buffers-written column-after written fields
+fields-written (plan W rows) lent =
+    λ t. record {
+      processors = overwritten-mapped (W .tasks) (row-of rows) lent (λ row. row .processor) t;
+      starts = overwritten-mapped (W .tasks) (row-of rows) lent (λ row. row .start) t;
+      finishes = overwritten-mapped (W .tasks) (row-of rows) lent (λ row. row .finish) t;
+      costs = overwritten-mapped (W .tasks) (row-of rows) lent (λ row. row .cost) t;
+    }
+fields-written (refusal number place) lent = refl
 
 -- The answer is document 01's, and the buffers after the call hold the fields of its rows after the call.
-pub record RowsAfter (s : List ℕ) (lent : List Row) (processors starts finishes costs : List ℕ) (r : Answer) : Type 0 where
+pub record RowsAfter (s : List ℕ) (lent : List Row) (after : Buffers) (r : Answer) : Type 0 where
   pub answer-is : meant-answer r ≡ answer s (length lent)
-  pub processors-are : processors ≡ map (λ row. row .processor) (rows-after s lent)
-  pub starts-are : starts ≡ map (λ row. row .start) (rows-after s lent)
-  pub finishes-are : finishes ≡ map (λ row. row .finish) (rows-after s lent)
-  pub costs-are : costs ≡ map (λ row. row .cost) (rows-after s lent)
+  pub fields-are : after ≡ fields (rows-after s lent)
 
-module _ (s : List ℕ) (lent : List Row) where
-  abbrev column : (Row → ℕ) → List ℕ
-  column field = map field lent
-
-  abbrev lent-fields : ℕ
-  lent-fields = rows-lent (column (λ row. row .processor)) (column (λ row. row .start)) (column (λ row. row .finish)) (column (λ row. row .cost))
-
-  lent-fields-are : lent-fields ≡ length lent
-  unfolding rows-lent
-  lent-fields-are =
-      omega (
-        arith,
-        length-map lent (λ row. row .processor),
-        length-map lent (λ row. row .start),
-        length-map lent (λ row. row .finish),
-        length-map lent (λ row. row .cost),
-      )
-
-  pub rows-are-written :
-      {processors starts finishes costs : List ℕ} {r : Answer}
-      → PlannedInto s (column (λ row. row .processor)) (column (λ row. row .start)) (column (λ row. row .finish)) (column (λ row. row .cost))
-      processors starts finishes costs r
-      → RowsAfter s lent processors starts finishes costs r
-  unfolding answer
-  rows-are-written into =
-      record {
-        answer-is = into .answer-is ∙ ap (λ n. answer-of (outcome s n)) lent-fields-are;
-        processors-are = are (λ row. row .processor) (into .after .processors-after);
-        starts-are = are (λ row. row .start) (into .after .starts-after);
-        finishes-are = are (λ row. row .finish) (into .after .finishes-after);
-        costs-are = are (λ row. row .cost) (into .after .costs-after);
-      }
-    where
-      are : (field : Row → ℕ) {after : List ℕ} → after ≡ column-after field (outcome s lent-fields) (column field)
-          → after ≡ map field (rows-after s lent)
-      are field e = e ∙ ap (λ n. column-after field (outcome s n) (column field)) lent-fields-are ∙ column-of-rows-after s lent field
+pub rows-are-written : (s : List ℕ) (lent : List Row) {after : Buffers} {r : Answer} → PlannedInto s (fields lent) after r → RowsAfter s lent after r
+unfolding rows-after buffers-after
+rows-are-written s lent into =
+    record {
+      answer-is = into .answer-is ∙ ap (answer s) (rows-lent-fields lent);
+      fields-are =
+          into .after-is
+          ∙ ap (λ n. buffers-written (outcome s n) (fields lent)) (rows-lent-fields lent)
+          ∙ fields-written (outcome s (length lent)) lent;
+    }

@@ -6,12 +6,13 @@ use lib.ListN.{drop}
 use Rattle.rules.specs.Folds.{listing}
 use Rattle.rules.specs.Rows.{Row, row-of}
 use Rattle.rules.specs.Answer.{Outcome, plan, refusal, answer-of}
+use Rattle.rules.specs.Buffers.{column-after}
 use Rattle.laws.specs.Listing.{listing-same}
 use Rattle.laws.specs.Overwritten.{overwritten}
 use Rattle.laws.specs.Stores.{at}
 use Rattle.placing.specs.Placed.{Column}
 use Rattle.planner.specs.declared.Answer.{Answer}
-use Rattle.planner.specs.Planned.{meant-answer, rows-in, rows-told, column-after}
+use Rattle.planner.specs.Planned.{meant-answer, rows-in, rows-told}
 use Rattle.planner.specs.Reach.{rows-due, told-due}
 
 module _ (field : Row → ℕ) {xs : List ℕ} (buffer : List ℕ) where

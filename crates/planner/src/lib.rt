@@ -11,7 +11,7 @@ ghost use Rattle.reader.specs.Meaning.{ViewOf, meant-deadline};
 ghost use Rattle.lookup.specs.Lookup.{workflow-of};
 ghost use Rattle.laws.specs.Stores.{at};
 ghost use Rattle.placing.specs.Placed.{RanksOf, PlacedAs};
-ghost use Rattle.planner.specs.Planned.{PlanOf, outcome-within, rows-told, PlannedInto};
+ghost use Rattle.planner.specs.Planned.{PlanOf, outcome-within, rows-told, four, PlannedInto};
 use placing::Outcome;
 use placing::Placing;
 use reader::Deadline;
@@ -185,7 +185,7 @@ pub fn plan_into(
     finishes: &mut [u64],
     costs: &mut [u64],
 ) -> Answer
-    ensures { λ r. ⌜ PlannedInto (now (request .entry)) (now (processors .entry)) (now (starts .entry)) (now (finishes .entry)) (now (costs .entry)) (now (processors .exit)) (now (starts .exit)) (now (finishes .exit)) (now (costs .exit)) r ⌝ }
+    ensures { λ r. ⌜ PlannedInto (now (request .entry)) (four (now (processors .entry)) (now (starts .entry)) (now (finishes .entry)) (now (costs .entry))) (four (now (processors .exit)) (now (starts .exit)) (now (finishes .exit)) (now (costs .exit))) r ⌝ }
 {
     let lent = shortest(processors.len(), starts.len(), finishes.len(), costs.len());
     let p = plan(request, lent);

@@ -1,4 +1,5 @@
--- The hypotheses of demand 3 hold of document 01's sample and its times by 3 and prices by 2: both pass reading and one is the other multiplied.
+-- The hypotheses of demand 3 hold of document 01's sample and its times by 3 and prices by 2: both pass reading and one is the other multiplied. And all
+-- but b of at least 1 hold of the sample for nothing.
 use Prim.Native.Nat.{ℕ, zero, suc, _*_, _<_}
 use mathlib.Core.Path.{_≡_, refl}
 use mathlib.Core.List.{List, []}
@@ -25,8 +26,9 @@ sampled : ℕ → Request
 sampled budget =
     record { tasks = 3; processors = 2; budget = budget; deadline = no-deadline; prices-at = 7; tasks-at = 13; edges-at = 73; edges = 2 }
 
-abbrev pub tripled : List ℕ
-tripled = sample 3 2 168 "prep    " [] []
+-- The sample with times by a and prices by b, and this budget.
+abbrev by : ℕ → ℕ → ℕ → List ℕ
+by a b budget = sample a b budget "prep    " [] []
 
 -- Two requests that demand 3 speaks of.
 pub record BothGood (a b : ℕ) (s t : List ℕ) : Type 0 where
@@ -38,31 +40,56 @@ pub record BothGood (a b : ℕ) (s t : List ℕ) : Type 0 where
   pub good′ : read-request t ≡ read end′ r′
   pub multiplied : MultipliedBy a b (workflow s r) (workflow t r′)
 
-pub sample-both-good : BothGood 3 2 (S 28) tripled
+-- The sample and the sample multiplied: what is left to compute are the numbers that are multiplied.
+both-good :
+    (a b budget : ℕ) →
+    let W = workflow (S 28) (sampled 28) in
+    let W′ = workflow (by a b budget) (sampled budget) in
+    read-request (by a b budget) ≡ read 84 (sampled budget) → budget ≡ a * b * 28
+    → ((j : ℕ) → j < 2 → W′ .price j ≡ b * W .price j)
+    → ((i : ℕ) → i < 3 → (j : ℕ) → j < 2 → W′ .minutes i j ≡ a * W .minutes i j)
+    → ((e : ℕ) → e < 2 → W′ .transfer e ≡ a * W .transfer e)
+    → BothGood a b (S 28) (by a b budget)
 unfolding given sample S sampled multiplied-deadline
-sample-both-good =
+both-good a b budget reads product price minutes transfer =
     record {
       end = 84;
       end′ = 84;
       r = sampled 28;
-      r′ = sampled 168;
+      r′ = sampled budget;
       good = refl;
-      good′ = refl;
+      good′ = reads;
       multiplied = record {
         tasks = refl;
         processors = refl;
-        budget = refl;
+        budget = product;
         deadline = refl;
-        price = below-two _ refl refl;
-        minutes = λ i j l m.
-            below-three (λ x. (y : ℕ) → y < 2 → workflow tripled (sampled 168) .minutes x y ≡ 3 * workflow (S 28) (sampled 28) .minutes x y)
-            (below-two _ refl refl)
-            (below-two _ refl refl)
-            (below-two _ refl refl)
-            i l j m;
+        price = price;
+        minutes = λ i j l m. minutes i l j m;
         edges = refl;
         from = below-two _ refl refl;
         to = below-two _ refl refl;
-        transfer = below-two _ refl refl;
+        transfer = transfer;
       };
     }
+
+abbrev pub tripled : List ℕ
+tripled = by 3 2 168
+
+pub sample-both-good : BothGood 3 2 (S 28) tripled
+unfolding given sample S sampled
+sample-both-good =
+    both-good 3 2 168 refl refl (below-two _ refl refl)
+    (below-three _ (below-two _ refl refl) (below-two _ refl refl) (below-two _ refl refl))
+    (below-two _ refl refl)
+
+-- Prices and the budget multiplied by 0.
+abbrev pub for-nothing : List ℕ
+for-nothing = by 1 0 0
+
+pub for-nothing-both-good : BothGood 1 0 (S 28) for-nothing
+unfolding given sample S sampled
+for-nothing-both-good =
+    both-good 1 0 0 refl refl (below-two _ refl refl)
+    (below-three _ (below-two _ refl refl) (below-two _ refl refl) (below-two _ refl refl))
+    (below-two _ refl refl)

@@ -37,7 +37,7 @@ same-length-4 c = search needs
 returns : tie.Need-returns
 returns c =
     let plan-into = c .before .before .before .before .before .before .before .before .before .plan-into .ensures in
-    record { answer-is = c .answer-told .ensures ∙ ap told-answer (plan-into .answer-is); after = plan-into .after }
+    record { answer-is = c .answer-told .ensures ∙ ap told-answer (plan-into .answer-is); after-is = plan-into .after-is }
 
 pub zabgurin-plan-spec : {M : Type 1} → statement M
 zabgurin-plan-spec =

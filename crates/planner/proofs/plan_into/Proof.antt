@@ -1,6 +1,8 @@
 -- The plan's columns are stored over the front of the buffers, as many numbers of each as the answer has rows.
 use Prim.Native.Nat.{_≤_, min}
-use Rattle.planner.specs.Planned.{PlanOf, rows-lent, outcome-into}
+use Rattle.planner.specs.Planned.{PlanOf, four}
+use Rattle.rules.specs.Answer.{Outcome, outcome, answer}
+use Rattle.rules.specs.Buffers.{Buffers, rows-lent, buffers-written, buffers-after}
 use Rattle.planner.specs.Reach.{rows-in-reach}
 use Rattle.planner.specs.Stored.{column-stored}
 use native.Mathlib.Omega.{arith}
@@ -14,17 +16,24 @@ use Rattle.planner.proofs.rows_of.Reads as rows-of-reads
 use Rattle.planner.proofs.shortest.Reads as shortest-reads
 use Rattle.planner.proofs.store.Reads as store-reads
 
--- The plan for as many rows as the shortest buffer has numbers.
-planned : (c : tie.After-rows-of) →
+-- The buffers that are lent, and the outcome for as many rows as the shortest of them has numbers.
+abbrev lent : tie.After-rows-of → Buffers
+lent c =
     let a = c .before .before .before .before .before .before .before .before .args in
-    PlanOf (outcome-into (a .request .now) (a .processors .now) (a .starts .now) (a .finishes .now) (a .costs .now)) (c .before .plan .result)
+    four (a .processors .now) (a .starts .now) (a .finishes .now) (a .costs .now)
+
+abbrev outcome-due : tie.After-rows-of → Outcome
+outcome-due c = outcome (c .before .before .before .before .before .before .before .before .args .request .now) (rows-lent (lent c))
+
+-- The plan is that outcome's.
+planned : (c : tie.After-rows-of) →
+    PlanOf (outcome-due c) (c .before .plan .result)
 unfolding rows-lent
 planned c = rw (c .before .before .shortest .ensures) at (c .before .plan .ensures)
 
 -- Its rows are in the columns, and each buffer has room for them.
 in-reach : (c : tie.After-rows-of) →
-    let a = c .before .before .before .before .before .before .before .before .args in
-    c .rows-of .result ≤ min (rows-lent (a .processors .now) (a .starts .now) (a .finishes .now) (a .costs .now)) 64
+    c .rows-of .result ≤ min (rows-lent (lent c)) 64
 in-reach c = rw (c .rows-of .ensures) (rows-in-reach _ _ (c .before .plan .result .answer) (planned c .answer-is))
 
 -- src/lib.rt:190:9
@@ -86,30 +95,24 @@ same-length-4 c = search needs
 
 -- src/lib.rt:181:1
 returns : tie.Need-returns
+unfolding answer buffers-after buffers-written
 returns c =
     let store4 = c .before .before in
     let store3 = store4 .before .before .before .before .before .before in
     let store2 = store3 .before .before .before .before .before .before in
     let store = store2 .before .before .before .before .before .before in
     let rows-of = store .before .before .before .before in
-    let a = rows-of .before .before .before .before .before .before .before .before .args in
-    let o = outcome-into (a .request .now) (a .processors .now) (a .starts .now) (a .finishes .now) (a .costs .now) in
+    let b = lent rows-of in
+    let o = outcome-due rows-of in
     let answer = rows-of .before .plan .result .answer in
     let is = planned rows-of .answer-is in
     let columns = planned rows-of .columns in
     let count = rows-of .rows-of .ensures in
-    record {
-      answer-is = is;
-      after =
-          record {
-            processors-after =
-                column-stored (λ row. row .processor) (a .processors .now) o answer is count (columns .processors-hold) (store .store .ensures);
-            starts-after = column-stored (λ row. row .start) (a .starts .now) o answer is count (columns .starts-hold) (store2 .store2 .ensures);
-            finishes-after =
-                column-stored (λ row. row .finish) (a .finishes .now) o answer is count (columns .finishes-hold) (store3 .store3 .ensures);
-            costs-after = column-stored (λ row. row .cost) (a .costs .now) o answer is count (columns .costs-hold) (store4 .store4 .ensures);
-          };
-    }
+    let processors = column-stored (λ row. row .processor) (b .processors) o answer is count (columns .processors-hold) (store .store .ensures) in
+    let starts = column-stored (λ row. row .start) (b .starts) o answer is count (columns .starts-hold) (store2 .store2 .ensures) in
+    let finishes = column-stored (λ row. row .finish) (b .finishes) o answer is count (columns .finishes-hold) (store3 .store3 .ensures) in
+    let costs = column-stored (λ row. row .cost) (b .costs) o answer is count (columns .costs-hold) (store4 .store4 .ensures) in
+    record { answer-is = is; after-is = λ t. four (processors t) (starts t) (finishes t) (costs t) }
 
 pub plan-into-spec : {M : Type 1} → statement M
 plan-into-spec =
