@@ -4,9 +4,9 @@ ghost use Prim.Native.Nat.{_+_, _≤_, _<_};
 ghost use lib.ListN.{length};
 ghost use Rattle.rules.specs.Fields.{E, size};
 ghost use Rattle.rules.specs.Workflow.{task-place, edge-place};
-ghost use Rattle.rules.specs.Labels.{part-of, label-lookup};
+ghost use Rattle.rules.specs.Labels.{label-lookup};
 ghost use Rattle.reader.specs.Meaning.{ViewOf, meant-view};
-ghost use Rattle.lookup.specs.Lookup.{workflow-of, meant-part};
+ghost use Rattle.lookup.specs.Lookup.{workflow-of, meant-part, LabelOf};
 use reader::Reading;
 use reader::View;
 
@@ -112,9 +112,7 @@ pub fn label_part(s: &[u8], task: usize) -> Part
 
 // The label of a task, without its spaces: a part of the request's own bytes, or its empty start.
 pub fn label<'a>(s: &'a [u8], task: usize) -> &'a [u8]
-    ensures { λ r.
-        ⌜ (now r ≡ part-of (now (s .entry)) (label-lookup (now (s .entry)) task))
-        × (r .ptr ≡ (s .entry .ptr .0, label-lookup (now (s .entry)) task .begin + s .entry .ptr .1)) ⌝ }
+    ensures { λ r. ⌜ LabelOf (now (s .entry)) (s .entry .ptr) task (now r) (r .ptr) ⌝ }
 {
     let part = label_part(s, task);
     let begin = part.begin;

@@ -41,10 +41,11 @@ part-result-end c =
 returns : tie.Need-returns
 returns c =
     let a = c .before .before .before .before .args in
-    let label-part = c .before .before .label-part in (
-      part-slice (a .s .now) (a .task) (label-part .result) (label-part .ensures),
-      ap (λ (p : Part). (a .s .ptr .0, p .begin + a .s .ptr .1)) (label-part .ensures),
-    )
+    let label-part = c .before .before .label-part in
+    record {
+      bytes-are = part-slice (a .s .now) (a .task) (label-part .result) (label-part .ensures);
+      stands-at = ap (λ (p : Part). (a .s .ptr .0, p .begin + a .s .ptr .1)) (label-part .ensures);
+    }
 
 pub label-spec : {M : Type 1} → statement M
 label-spec =
