@@ -16,3 +16,4 @@ pub mod Unmarked
 pub mod NextTask
 pub mod Ranks
 pub mod Stores
+pub mod Bounds
