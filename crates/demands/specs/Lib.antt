@@ -1,5 +1,4 @@
 pub mod MethodLaws
-pub mod StartLaws
 pub mod ScoreMultiplied
 pub mod Best
 pub mod ZeroRanges

@@ -17,3 +17,4 @@ pub mod NextTask
 pub mod Ranks
 pub mod Stores
 pub mod Bounds
+pub mod StartLaws

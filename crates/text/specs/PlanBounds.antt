@@ -14,7 +14,7 @@ use Rattle.rules.specs.Placing.{ready-for, start-of, finish-of, row-on}
 use Rattle.good.specs.Ranges.{InRange}
 use Rattle.laws.specs.Tests.{cond-either}
 use Rattle.laws.specs.Folds.{sum-at-most-each}
-use Rattle.demands.specs.StartLaws.{start-at-most}
+use Rattle.laws.specs.StartLaws.{start-at-most}
 use Rattle.demands.specs.Steps.{EachStep, AsTheMethod}
 use Rattle.demands.specs.Demand2.{MethodsPlan}
 use Rattle.hand.specs.HandLaws.{cost-at-most}
