@@ -18,3 +18,4 @@ pub mod Ranks
 pub mod Stores
 pub mod Bounds
 pub mod StartLaws
+pub mod LatestFinish
