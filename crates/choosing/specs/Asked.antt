@@ -3,6 +3,7 @@ use Prim.Native.Nat.{ℕ, _≤_, _<_}
 use mathlib.Core.List.{List}
 use lib.ListN.{getD}
 use Rattle.rules.specs.Method as rules
+use Rattle.laws.specs.Bounds.{asked-finish-most, cost-most, total-most, budget-most}
 use Rattle.choosing.specs.declared.Choice.{Choice}
 use Rattle.choosing.specs.declared.Choice.the-variants.{Take, Nothing}
 
@@ -11,14 +12,14 @@ abbrev pub asked : ℕ → List ℕ → List ℕ → ℕ → ℕ → rules.Quest
 asked m costs finishes rb rcb =
     record { processors = m; cost = λ j. getD costs j 0; finish = λ j. getD finishes j 0; RB = rb; RCB = rcb }
 
--- As of a good request: a task costs at most 2,000 minutes at a price of 100, and 64 of them with the transfer before each end by 192,000 and cost 12,800,000.
+-- As of a good request.
 pub record InRange (q : rules.Question) : Type 0 where
   pub processors-least : 1 ≤ q .processors
   pub processors-most : q .processors ≤ 16
-  pub costs : (j : ℕ) → j < q .processors → q .cost j ≤ 200_000
-  pub finishes : (j : ℕ) → j < q .processors → q .finish j ≤ 200_000
-  pub RB : q .RB ≤ 20_000_000
-  pub RCB : q .RCB ≤ 12_800_000
+  pub costs : (j : ℕ) → j < q .processors → q .cost j ≤ cost-most
+  pub finishes : (j : ℕ) → j < q .processors → q .finish j ≤ asked-finish-most
+  pub RB : q .RB ≤ budget-most
+  pub RCB : q .RCB ≤ total-most
 
 -- What the code's answer means.
 unfoldable pub meant-choice : Choice → rules.Choice

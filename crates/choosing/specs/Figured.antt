@@ -6,6 +6,7 @@ use lib.Dec.{leb}
 use Rattle.rules.specs.Folds.{largest, lowest}
 use Rattle.rules.specs.Orders.{Order, tie, lower, first}
 use Rattle.rules.specs.Method.{Question, or-one, may-be-taken, score}
+use Rattle.laws.specs.Bounds.{asked-finish-most, cost-most, total-most, budget-most}
 use Rattle.choosing.specs.declared.figures.Figures.{Figures}
 use Rattle.choosing.specs.declared.figures.Weights.{Weights}
 
@@ -41,11 +42,11 @@ pub record Passed (g : Figures) (cost finish : ℕ) (r : Figures) : Type 0 where
 
 -- So that no score wraps.
 pub record FiguresInRange (g : Figures) : Type 0 where
-  pub best : g .best ≤ 200_000
-  pub latest : g .latest ≤ 200_000
-  pub highest : g .highest ≤ 200_000
-  pub rb : g .rb ≤ 20_000_000
-  pub rcb : g .rcb ≤ 12_800_000
+  pub best : g .best ≤ cost-most
+  pub latest : g .latest ≤ asked-finish-most
+  pub highest : g .highest ≤ cost-most
+  pub rb : g .rb ≤ budget-most
+  pub rcb : g .rcb ≤ total-most
 
 pub record Weighed (g : Figures) (w : Weights) : Type 0 where
   pub saved : w .saved ≡ g .rcb * or-one (g .latest - g .earliest)

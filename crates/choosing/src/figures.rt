@@ -2,6 +2,7 @@
 ghost use mathlib.Core.Path.{_≡_};
 ghost use Prim.Native.Nat.{_+_, _≤_};
 ghost use lib.Dec.{leb};
+ghost use Rattle.laws.specs.Bounds.{cost-most, total-most};
 ghost use Rattle.choosing.specs.Asked.{asked};
 ghost use Rattle.choosing.specs.Figured.{BestCost, Passed, FiguresOf, FiguresInRange, Weighed, may-by, score-by, standing-by};
 
@@ -71,7 +72,7 @@ pub fn figures_of(m: usize, costs: &[u64; 16], finishes: &[u64; 16], rb: u64, rc
 
 // "cost(j) <= RB - RCB", which may be below 0.
 fn affordable(g: Figures, cost: u64) -> bool
-    requires { ⌜ (cost ≤ 200_000) × (g .rcb ≤ 12_800_000) ⌝ }
+    requires { ⌜ (cost ≤ cost-most) × (g .rcb ≤ total-most) ⌝ }
     ensures { λ r. ⌜ r ≡ leb (cost + g .rcb) (g .rb) ⌝ }
 {
     cost + g.rcb <= g.rb
@@ -79,7 +80,7 @@ fn affordable(g: Figures, cost: u64) -> bool
 
 // "j may be taken when cost(j) <= cost(best) and cost(j) <= RB - RCB."
 fn may_be_taken(g: Figures, cost: u64) -> bool
-    requires { ⌜ (cost ≤ 200_000) × (g .rcb ≤ 12_800_000) ⌝ }
+    requires { ⌜ (cost ≤ cost-most) × (g .rcb ≤ total-most) ⌝ }
     ensures { λ r. ⌜ r ≡ may-by g cost ⌝ }
 {
     if g.best < cost {
@@ -122,7 +123,7 @@ fn score(g: Figures, w: Weights, cost: u64, finish: u64) -> u64
 pub fn standing(g: Figures, w: Weights, cost: u64, finish: u64) -> u64
     requires { ⌜ FiguresInRange g ⌝ }
     requires { ⌜ Weighed g w ⌝ }
-    requires { ⌜ cost ≤ 200_000 ⌝ }
+    requires { ⌜ cost ≤ cost-most ⌝ }
     ensures { λ r. ⌜ r ≡ standing-by g cost finish ⌝ }
 {
     let above = score(g, w, cost, finish) + 1;

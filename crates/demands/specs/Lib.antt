@@ -1,4 +1,3 @@
-pub mod StartLaws
 pub mod Ground
 pub mod Demand1
 pub mod Demand2

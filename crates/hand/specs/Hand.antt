@@ -8,7 +8,7 @@ use lib.ListN.{length}
 use Rattle.rules.specs.Workflow.{Workflow}
 use Rattle.rules.specs.Ranks.{cost}
 use Rattle.rules.specs.Start.{Interval, start-on}
-use Rattle.rules.specs.Method.{Question, Choice, take, nothing}
+use Rattle.rules.specs.Method.{Question, Choice, take, nothing, Method}
 use Rattle.laws.specs.Stores.{at}
 use Rattle.hand.specs.declared.Hand.{Hand}
 use Rattle.hand.specs.declared.Hand.the-variants as hand
@@ -35,3 +35,7 @@ module _ (W : Workflow) (ready : ℕ → ℕ) (busy : ℕ → List Interval) (i 
   unfoldable pub hand-by : Choice → Hand
   hand-by (take j) = hand.Row j (start-by j) (finish-by j) (cost W i j)
   hand-by nothing = hand.Nothing
+
+  -- What the method gives, for so much of RB and RCB.
+  abbrev pub hand-of : Method → (RB RCB : ℕ) → Hand
+  hand-of M RB RCB = hand-by (M (question-by RB RCB))

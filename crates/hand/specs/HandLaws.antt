@@ -1,16 +1,18 @@
 -- The row of the task in hand, from arrays of its costs and finishes and the choice from them.
-use Prim.Native.Nat.{ℕ, _+_, _-_, _≤_, _<_, max}
+use Prim.Native.Nat.{ℕ, _+_, _-_, _≤_, _<_}
 use mathlib.Core.Path.{_≡_, refl, sym, ap, _∙_}
-use mathlib.Core.List.{List}
+use mathlib.Core.List.{List, List·Memᴰ, List·Memᴰ·eq-of-singleton}
 use native.Mathlib.Nat.{mul-le-mul}
 use native.Mathlib.Omega.{arith}
 use Rattle.rules.specs.Workflow.{Workflow}
 use Rattle.rules.specs.Folds.{lowest}
 use Rattle.rules.specs.Ranks.{cost, lowest-cost}
-use Rattle.rules.specs.Start.{Interval, start-on, latest-end}
+use Rattle.rules.specs.Start.{Interval, start-on}
 use Rattle.rules.specs.Method.{Question, HBCS}
 use Rattle.good.specs.Ranges as good
+use Rattle.laws.specs.Bounds.{ready-most, asked-finish-most, cost-most, total-most, budget-most}
 use Rattle.laws.specs.Folds.{lowest-same, lowest-at-most}
+use Rattle.laws.specs.StartLaws.{start-at-most}
 use Rattle.laws.specs.Method.{HBCS-same, HBCS-takes-processor}
 use Rattle.choosing.specs.declared.Choice.{Choice}
 use Rattle.choosing.specs.declared.Choice.the-variants.{Take, Nothing}
@@ -18,7 +20,7 @@ use Rattle.choosing.specs.Asked.{asked, InRange, meant-choice}
 use Rattle.laws.specs.Stores.{at}
 use Rattle.hand.specs.Filled.{AtMost, Filled}
 use Rattle.hand.specs.Busy.{kept-busy}
-use Rattle.hand.specs.Hand.{start-by, finish-by, question-by, hand-by}
+use Rattle.hand.specs.Hand.{start-by, finish-by, question-by, hand-by, hand-of}
 use Rattle.hand.specs.declared.Hand.{Hand}
 use Rattle.hand.specs.declared.Hand.the-variants as hand
 
@@ -28,10 +30,10 @@ pub record RowOn (W : Workflow) (i j : ℕ) (costs finishes : List ℕ) (row : H
   pub minutes-in-finish : W .minutes i j ≤ at finishes j
   pub row-is : hand.Row j (at finishes j - W .minutes i j) (at finishes j) (at costs j) ≡ row
 
--- No task starts before the latest finish that is kept.
-pub start-on-kept : (until : List ℕ) (j ready minutes : ℕ) → start-on (kept-busy until j) ready minutes ≡ max ready (at until j)
-unfolding start-on kept-busy latest-end
-start-on-kept until j ready minutes = omega arith
+-- What is kept of a processor ends by b, where the array is at most b.
+kept-ends : {b : ℕ} (until : List ℕ) (j : ℕ) → AtMost b until → (v : Interval) → List·Memᴰ v (kept-busy until j) → v .end ≤ b
+unfolding kept-busy
+kept-ends until j most v m = omega (arith, ap (λ (w : Interval). w .end) (List·Memᴰ·eq-of-singleton m), most j)
 
 pub finish-is :
     (W : Workflow) (ready : ℕ → ℕ) (busy : ℕ → List Interval) (i j : ℕ) {minutes start : ℕ} → minutes ≡ W .minutes i j
@@ -40,11 +42,11 @@ unfolding finish-by start-by
 finish-is W ready busy i j minutes start = rw (start, minutes)
 
 module _ (W : Workflow) (range : good.InRange W) (i : ℕ) where
-  pub cost-at-most : (j : ℕ) → cost W i j ≤ 200_000
+  pub cost-at-most : (j : ℕ) → cost W i j ≤ cost-most
   unfolding cost
   cost-at-most j = omega (arith, mul-le-mul (range .minutes-most i j) (range .price-in j))
 
-  pub lowest-cost-at-most : lowest-cost W i ≤ 200_000
+  pub lowest-cost-at-most : lowest-cost W i ≤ cost-most
   unfolding lowest-cost
   lowest-cost-at-most =
       omega (arith, lowest-at-most (W .processors) (cost W i) 0 (range .processors-in .from-low), cost-at-most 0)
@@ -55,11 +57,15 @@ module _ (W : Workflow) (range : good.InRange W) (i : ℕ) where
 
   -- A task takes at most 2,000 minutes from when its data is ready and the processor is free.
   pub finish-at-most :
-      (ready : ℕ → ℕ) (until : List ℕ) (latest : ℕ) → ((j : ℕ) → ready j ≤ latest) → AtMost latest until
-      → (j : ℕ) → finish-by W ready (kept-busy until) i j ≤ latest + 2_000
+      (ready : ℕ → ℕ) (until : List ℕ) → ((j : ℕ) → ready j ≤ ready-most) → AtMost ready-most until
+      → (j : ℕ) → finish-by W ready (kept-busy until) i j ≤ asked-finish-most
   unfolding finish-by start-by
-  finish-at-most ready until latest by-then kept j =
-      omega (arith, start-on-kept until j (ready j) (W .minutes i j), by-then j, kept j, range .minutes-most i j)
+  finish-at-most ready until by-then kept j =
+      omega (
+        arith,
+        start-at-most (kept-busy until j) (ready j) (W .minutes i j) ready-most (by-then j) (kept-ends until j kept),
+        range .minutes-most i j,
+      )
 
   module _ (ready : ℕ → ℕ) (busy : ℕ → List Interval) (rb rcb : ℕ) {costs finishes : List ℕ}
       (all-costs : Filled (W .processors) (cost W i) costs)
@@ -68,7 +74,7 @@ module _ (W : Workflow) (range : good.InRange W) (i : ℕ) where
     question = asked (W .processors) costs finishes rb rcb
 
     pub asked-in-range :
-        ((j : ℕ) → finish-by W ready busy i j ≤ 200_000) → rb ≤ 20_000_000 → rcb ≤ 12_800_000 → InRange question
+        ((j : ℕ) → finish-by W ready busy i j ≤ asked-finish-most) → rb ≤ budget-most → rcb ≤ total-most → InRange question
     asked-in-range few rb-most rcb-most =
         record {
           processors-least = range .processors-in .from-low;
@@ -87,7 +93,7 @@ module _ (W : Workflow) (range : good.InRange W) (i : ℕ) where
 
     -- What the choice from the arrays gives.
     abbrev row : Hand
-    row = hand-by W ready busy i (HBCS (question-by W ready busy i rb rcb))
+    row = hand-of W ready busy i HBCS rb rcb
 
     module _ {choice : Choice} (chosen : meant-choice choice ≡ HBCS question) where
       row-given : (answer : Choice) → choice ≡ answer → hand-by W ready busy i (meant-choice answer) ≡ row

@@ -10,8 +10,7 @@ use borrow.Author.Tests.{eq-eqb, ne-eqb}
 use Rattle.rules.specs.Folds.{largest}
 use Rattle.rules.specs.Workflow.{Workflow}
 use Rattle.rules.specs.Start.{arrival, ready}
-use Rattle.good.specs.Ranges.{InRange}
-use Rattle.laws.specs.Folds.{largest-next, largest-further, largest-at-most}
+use Rattle.laws.specs.Folds.{largest-next, largest-further}
 use Rattle.laws.specs.Stores.{stored-below, repeated, at}
 use Rattle.links.specs.Links.{LastInto}
 use Rattle.hand.specs.Filled.{Filled}
@@ -93,13 +92,3 @@ module _ (W : Workflow) (sits ends : ℕ → ℕ) (i : ℕ) where
     unfolding largest
     ready-from-start {k} none all =
         record { size = all .size; below = λ j l. omega (arith, ap (λ n. max (at xs j) (largest n (awaited j))) none, all .with-rest j l); past = all .past }
-
-  -- Data is ready at most 1,000 minutes after the last end.
-  pub ready-at-most : InRange W → (latest : ℕ) → ((k : ℕ) → ends k ≤ latest) → (j : ℕ) → ready W sits ends i j ≤ latest + 1_000
-  unfolding ready arrival
-  ready-at-most range latest ended j = largest-at-most (W .edges) _ (latest + 1_000) (λ e l. go e (eqb (W .to e) i) (eqb (sits (W .from e)) j))
-    where
-      go : (e : ℕ) (s t : Bool) → cond s (ends (W .from e) + cond t 0 (W .transfer e)) 0 ≤ latest + 1_000
-      go e true true = omega (arith, ended (W .from e))
-      go e true false = omega (arith, ended (W .from e), range .transfer-in e)
-      go e false t = omega arith

@@ -9,10 +9,11 @@ ghost use Rattle.rules.specs.Method.{HBCS};
 ghost use Rattle.reader.specs.Meaning.{ViewOf};
 ghost use Rattle.lookup.specs.Lookup.{workflow-of};
 ghost use Rattle.links.specs.Links.{Linked};
+ghost use Rattle.laws.specs.Bounds.{finish-most, ready-most, total-most, budget-most};
 ghost use Rattle.laws.specs.Stores.{at};
 ghost use Rattle.hand.specs.Filled.{AtMost, Filled};
 ghost use Rattle.hand.specs.Busy.{kept-busy};
-ghost use Rattle.hand.specs.Hand.{WaitedFor, finish-by, question-by, hand-by};
+ghost use Rattle.hand.specs.Hand.{WaitedFor, finish-by, hand-of};
 use choosing::Choice;
 use reader::View;
 
@@ -56,7 +57,7 @@ pub fn ready_on_all<'a>(
     task: usize,
 ) -> [u64; 16]
     requires { ⌜ ViewOf (now s) v ⌝ }
-    requires { ⌜ (task < v .tasks) × Linked (workflow-of (now s) v) (v .edges) (now last) (now before) × AtMost 192_000 (now ends) ⌝ }
+    requires { ⌜ (task < v .tasks) × Linked (workflow-of (now s) v) (v .edges) (now last) (now before) × AtMost finish-most (now ends) ⌝ }
     ensures { λ r. ⌜ Filled (v .processors) (ready (workflow-of (now (s .entry)) v) (at (now (sits .entry))) (at (now (ends .entry))) task) r ⌝ }
 {
     let mut all = [0u64; 16];
@@ -89,7 +90,7 @@ pub fn start_on(until: &[u64; 16], j: usize, ready: u64, minutes: u64) -> u64
 // The task's finish on each processor, by when its data is ready there.
 fn finish_on_all(s: &[u8], v: View, ready: &[u64; 16], until: &[u64; 16], task: usize) -> [u64; 16]
     requires { ⌜ ViewOf (now s) v ⌝ }
-    requires { ⌜ (task < v .tasks) × AtMost 193_000 (now ready) × AtMost 193_000 (now until) ⌝ }
+    requires { ⌜ (task < v .tasks) × AtMost ready-most (now ready) × AtMost ready-most (now until) ⌝ }
     ensures { λ r. ⌜ Filled (v .processors) (finish-by (workflow-of (now (s .entry)) v) (at (now (ready .entry))) (kept-busy (now (until .entry))) task) r ⌝ }
 {
     let mut all = [0u64; 16];
@@ -134,7 +135,7 @@ pub fn lowest_of(m: usize, all: &[u64; 16]) -> u64
 // The cheapest total: the sum of all tasks' lowest costs.
 pub fn cheapest_total(s: &[u8], v: View) -> u64
     requires { ⌜ ViewOf (now s) v ⌝ }
-    ensures { λ r. ⌜ (r ≡ cheapest-total (workflow-of (now (s .entry)) v)) × (r ≤ 12_800_000) ⌝ }
+    ensures { λ r. ⌜ (r ≡ cheapest-total (workflow-of (now (s .entry)) v)) × (r ≤ total-most) ⌝ }
 {
     let mut total: u64 = 0;
     let mut i = 0;
@@ -158,9 +159,9 @@ pub fn row_for(
     rcb: u64,
 ) -> Hand
     requires { ⌜ ViewOf (now s) v ⌝ }
-    requires { ⌜ (task < v .tasks) × AtMost 193_000 (now ready) × AtMost 193_000 (now until) ⌝ }
-    requires { ⌜ Filled (v .processors) (cost (workflow-of (now s) v) task) (now costs) × (rb ≤ 20_000_000) × (rcb ≤ 12_800_000) ⌝ }
-    ensures { λ r. ⌜ r ≡ hand-by (workflow-of (now (s .entry)) v) (at (now (ready .entry))) (kept-busy (now (until .entry))) task (HBCS (question-by (workflow-of (now (s .entry)) v) (at (now (ready .entry))) (kept-busy (now (until .entry))) task rb rcb)) ⌝ }
+    requires { ⌜ (task < v .tasks) × AtMost ready-most (now ready) × AtMost ready-most (now until) ⌝ }
+    requires { ⌜ Filled (v .processors) (cost (workflow-of (now s) v) task) (now costs) × (rb ≤ budget-most) × (rcb ≤ total-most) ⌝ }
+    ensures { λ r. ⌜ r ≡ hand-of (workflow-of (now (s .entry)) v) (at (now (ready .entry))) (kept-busy (now (until .entry))) task HBCS rb rcb ⌝ }
 {
     let finishes = finish_on_all(s, v, ready, until, task);
     let choice = choosing::choose(v.processors, costs, &finishes, rb, rcb);

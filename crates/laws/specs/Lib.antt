@@ -16,3 +16,6 @@ pub mod Unmarked
 pub mod NextTask
 pub mod Ranks
 pub mod Stores
+pub mod Bounds
+pub mod StartLaws
+pub mod LatestFinish

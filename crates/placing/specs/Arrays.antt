@@ -1,25 +1,20 @@
 -- The arrays at first, and with one more row: a store keeps what each holds.
-use Prim.Native.Nat.{ℕ, _≤_, _<_}
+use Prim.Native.Nat.{ℕ, _+_, _<_}
 use mathlib.Core.Path.{_≡_, refl, sym, _∙_}
 use mathlib.Core.Bool.{Bool, true, false, cond, _||_}
 use mathlib.Core.List.{List, [], _∷_}
 use native.Mathlib.Omega.{arith}
 use lib.Dec.{eqb}
-use lib.ListN.{length, set, length-set, replicate}
+use lib.ListN.{set, length-set, replicate}
 use borrow.Author.Tests.{eqb-true}
-use Rattle.rules.specs.Start.{latest-end}
+use Rattle.rules.specs.Start.{Interval, start-on}
 use Rattle.rules.specs.Rows.{Row, Placed, row-of, is-placed, busy}
-use Rattle.laws.specs.Tests.{cond-mapped, cond-either}
+use Rattle.laws.specs.StartLaws.{SameStart, up-to, up-to-0-as-nothing, up-to-finish-as-all}
+use Rattle.laws.specs.Tests.{cond-mapped}
 use Rattle.laws.specs.Stores.{stored, stored-holds, repeated, at}
-use Rattle.hand.specs.Filled.{AtMost}
 use Rattle.hand.specs.Busy.{kept-busy}
 use Rattle.placing.specs.Placed.{Column, Columns}
 use Rattle.placing.specs.Kept.{Marks, Until}
-
--- What is kept of a processor ends when the array says.
-latest-kept : (until : List ℕ) (j : ℕ) → latest-end (kept-busy until j) ≡ at until j
-unfolding latest-end kept-busy
-latest-kept until j = omega arith
 
 -- At first no task has a row.
 column-first : (field : Row → ℕ) → ((i : ℕ) → field (row-of [] i) ≡ 0) → Column field [] (replicate 64 0)
@@ -40,8 +35,8 @@ unfolding is-placed
 marks-first = record { size = refl; holds = repeated 64 false }
 
 pub until-first : Until [] (replicate 16 0)
-unfolding busy latest-end
-until-first = record { size = refl; holds = λ j. latest-kept (replicate 16 0) j ∙ repeated 16 0 j }
+unfolding busy kept-busy
+until-first = record { size = refl; holds = λ j. rw (repeated {A = ℕ} 16 0 j) up-to-0-as-nothing }
 
 module _ (p : Placed) (rows : List Placed) where
   column-more : (field : Row → ℕ) {xs : List ℕ} → Column field rows xs → p .task < 64 → Column field (p ∷ rows) (set xs (p .task) (field (p .row)))
@@ -78,29 +73,23 @@ module _ (p : Placed) (rows : List Placed) where
       go true t = refl
       go false t = refl
 
-  -- A task that ends no earlier than all on its processor is the latest there.
-  module _ (last : latest-end (busy rows (p .row .processor)) ≤ p .row .finish) where
-    latest-more : (j : ℕ) → cond (eqb (p .row .processor) j) (p .row .finish) (latest-end (busy rows j)) ≡ latest-end (busy (p ∷ rows) j)
-    unfolding busy latest-end
-    latest-more j = go (eqb (p .row .processor) j) refl
-      where
-        go :
-            (s : Bool) → eqb (p .row .processor) j ≡ s
-            → cond s (p .row .finish) (latest-end (busy rows j))
-            ≡ latest-end (cond s (record { begin = p .row .start; end = p .row .finish } ∷ busy rows j) (busy rows j))
-        go true e = let here : latest-end (busy rows j) ≤ p .row .finish = rw (eqb-true (p .row .processor) j e) at last in omega arith
-        go false e = refl
-
+  -- A task that starts where the rule says is the last on its processor.
+  module _ (ready minutes : ℕ) (start-is : p .row .start ≡ start-on (busy rows (p .row .processor)) ready minutes)
+      (finish-is : p .row .finish ≡ p .row .start + minutes) where
     pub until-more : {until : List ℕ} → Until rows until → p .row .processor < 16 → Until (p ∷ rows) (set until (p .row .processor) (p .row .finish))
+    unfolding busy kept-busy
     until-more {until} held l =
         record {
           size = length-set until (p .row .processor) (p .row .finish) ∙ held .size;
           holds = λ j.
-              latest-kept _ j
-              ∙ stored-holds until _ _ (p .row .processor) (p .row .finish) 0 (omega (arith, held .size))
-              (λ i. sym (latest-kept until i) ∙ held .holds i) latest-more j;
+              rw (stored until (p .row .processor) (p .row .finish) 0 j (omega (arith, held .size))) (go j (eqb (p .row .processor) j) refl);
         }
+      where
+        here : Interval
+        here = record { begin = p .row .start; end = p .row .finish }
 
-pub stored-at-most : (xs : List ℕ) {b x i : ℕ} → AtMost b xs → i < length xs → x ≤ b → AtMost b (set xs i x)
-stored-at-most xs {b} {x} {i} each l here k =
-    rw (stored xs i x 0 k l) (cond-either (λ y. y ≤ b) (eqb i k) x (at xs k) (λ _. here) (λ _. each k))
+        go :
+            (j : ℕ) (s : Bool) → eqb (p .row .processor) j ≡ s
+            → SameStart (up-to (cond s (p .row .finish) (at until j))) (cond s (here ∷ busy rows j) (busy rows j))
+        go j true e = rw (← eqb-true (p .row .processor) j e) (up-to-finish-as-all _ ready minutes start-is finish-is)
+        go j false e = held .holds j

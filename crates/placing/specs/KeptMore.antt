@@ -1,30 +1,31 @@
 -- One turn: the next task gets a row and what is kept has it, or no processor may be taken and placing is stuck.
-use Prim.Native.Nat.{ℕ, zero, suc, _+_, _*_, _-_, _≤_, _<_, max}
-use mathlib.Core.Path.{_≡_, ap, _∙_}
-use mathlib.Core.Bool.{Bool, true}
+use Prim.Native.Nat.{ℕ, zero, suc, _+_, _-_, _≤_, _<_, max}
+use mathlib.Core.Path.{_≡_, sym, ap, _∙_}
 use mathlib.Core.List.{List, _∷_}
 use native.Mathlib.Nat.{zero-add, suc-add}
 use native.Mathlib.Numerals.{add-one}
 use native.Mathlib.Omega.{arith}
-use lib.ListN.{set}
 use Rattle.rules.specs.Workflow.{Workflow}
 use Rattle.rules.specs.Ranks.{next-task}
-use Rattle.rules.specs.Start.{latest-end, ready, start-on}
+use Rattle.rules.specs.Start.{ready, start-on}
 use Rattle.rules.specs.Rows.{Row, Placed, is-placed, busy, spent, length-of}
 use Rattle.rules.specs.Method.{Method, Choice}
-use Rattle.rules.specs.Placing.{start-of, finish-of, RCB, row-on, so-far, stuck, put, place-next, place}
+use Rattle.rules.specs.Placing.{ready-for, start-of, finish-of, RCB, row-on, so-far, stuck, put, place-next, place}
 use Rattle.good.specs.Ranges.{InRange}
+use Rattle.laws.specs.Bounds.{cost-most}
+use Rattle.laws.specs.LatestFinish.{length-in-reach}
 use Rattle.laws.specs.Unmarked.{sum-unmarked-less}
 use Rattle.laws.specs.Method.{ChoosesAmong}
 use Rattle.laws.specs.Stores.{at}
 use Rattle.hand.specs.Filled.{Filled}
 use Rattle.hand.specs.Busy.{kept-busy}
-use Rattle.hand.specs.Hand.{question-by, hand-by}
-use Rattle.hand.specs.HandLaws.{cost-at-most, finish-at-most}
+use Rattle.hand.specs.Hand.{question-by, hand-of}
+use Rattle.hand.specs.HandLaws.{cost-at-most}
 use Rattle.hand.specs.declared.Hand.the-variants as hand
+use Rattle.placing.specs.State.{State, with-row}
 use Rattle.placing.specs.Kept.{Kept}
-use Rattle.placing.specs.Arrays.{columns-more, marks-more, until-more, stored-at-most}
-use Rattle.placing.specs.KeptHand.{HandedBy, finish-kept, ready-within, choice-kept, row-kept, processor-below, nothing-kept}
+use Rattle.placing.specs.Arrays.{columns-more, marks-more, until-more}
+use Rattle.placing.specs.KeptHand.{HandedBy, choice-kept, row-kept, processor-below, nothing-kept}
 use Rattle.placing.specs.KeptLaws.{next-free}
 
 stuck-stays : (M : Method) (W : Workflow) (i k more : ℕ) → place M W k ≡ stuck i → place M W (more + k) ≡ stuck i
@@ -32,25 +33,23 @@ unfolding place place-next
 stuck-stays M W i k zero h = ap (place M W) (zero-add k) ∙ h
 stuck-stays M W i k (suc more) h = ap (place M W) (suc-add more k) ∙ ap (place-next M W) (stuck-stays M W i k more h)
 
-module _ {M : Method} (among : ChoosesAmong M) {W : Workflow} (range : InRange W) {k : ℕ} {sits starts ends costs : List ℕ} {placed : List Bool} {until : List ℕ}
-    {rb paid rcb length : ℕ}
-    (kept : Kept M W k sits starts ends costs placed until rb paid rcb length)
+module _ {M : Method} (among : ChoosesAmong M) {W : Workflow} (range : InRange W) {k : ℕ} {state : State} (kept : Kept M W k state)
     (more : k < W .tasks)
     {i : ℕ}
     (next : i ≡ next-task W (is-placed (kept .rows)))
     {minutes : List ℕ}
-    (all-ready : Filled (W .processors) (ready W (at sits) (at ends) i) minutes)
+    (all-ready : Filled (W .processors) (ready W (at (state .sits)) (at (state .ends)) i) minutes)
     {to-come : ℕ}
     (to-come-is : to-come ≡ RCB W (kept .rows) i) where
   abbrev choice : Choice
-  choice = M (question-by W (at minutes) (kept-busy until) i rb to-come)
+  choice = M (question-by W (at minutes) (kept-busy (state .until)) i (state .rb) to-come)
 
   put-next : place M W (suc k) ≡ put W (kept .rows) i choice
   unfolding place place-next
   put-next = rw (kept .placed-so-far, ← next, choice-kept among range kept i all-ready to-come-is)
 
   -- Where no processor may be taken, placing is stuck at this task.
-  pub kept-stuck : hand.Nothing ≡ hand-by W (at minutes) (kept-busy until) i choice → place M W (W .tasks) ≡ stuck i
+  pub kept-stuck : hand.Nothing ≡ hand-of W (at minutes) (kept-busy (state .until)) i M (state .rb) to-come → place M W (W .tasks) ≡ stuck i
   unfolding put
   kept-stuck e =
       let none = nothing-kept among range kept i all-ready choice e in
@@ -59,7 +58,7 @@ module _ {M : Method} (among : ChoosesAmong M) {W : Workflow} (range : InRange W
       ap (place M W) all ∙ stuck-stays M W i (suc k) (W .tasks - suc k) here
 
   -- One task more.
-  module _ {p s f c : ℕ} (handed : hand.Row p s f c ≡ hand-by W (at minutes) (kept-busy until) i choice) where
+  module _ {p s f c : ℕ} (handed : hand.Row p s f c ≡ hand-of W (at minutes) (kept-busy (state .until)) i M (state .rb) to-come) where
     abbrev row : Row
     row = record { processor = p; start = s; finish = f; cost = c }
 
@@ -75,31 +74,26 @@ module _ {M : Method} (among : ChoosesAmong M) {W : Workflow} (range : InRange W
         ap (place M W) (add-one k) ∙ put-next ∙ ap (put W (kept .rows) i) (by .taken)
         ∙ ap (λ r. so-far (record { task = i; row = r } ∷ kept .rows)) (by .row-is)
 
-    finish-is : finish-of W (kept .rows) i p ≡ f
+    start-is : s ≡ start-on (busy (kept .rows) p) (ready-for W (kept .rows) i p) (W .minutes i p)
+    unfolding row-on start-of
+    start-is = sym (ap (λ r. r .start) (by .row-is))
+
+    finish-is : f ≡ finish-of W (kept .rows) i p
     unfolding row-on
-    finish-is = ap (λ r. r .finish) (by .row-is)
+    finish-is = sym (ap (λ r. r .finish) (by .row-is))
+
+    finish-from-start : f ≡ s + W .minutes i p
+    unfolding finish-of start-of
+    finish-from-start = finish-is ∙ ap (λ x. x + W .minutes i p) (sym start-is)
 
     pub processor : p < W .processors
     processor = processor-below among range kept i all-ready to-come-is handed
 
-    finish-most : f ≤ 3_000 * (k + 1)
-    finish-most =
-        let most =
-        finish-at-most W range i (at minutes) until (3_000 * k + 1_000) (ready-within among range kept i all-ready) (λ j. omega (arith, kept .until-most j)) p in
-        omega (arith, finish-is, finish-kept among range kept i all-ready p processor, most)
-
-    -- It ends after all that was on its processor.
-    finish-last : latest-end (busy (kept .rows) p) ≤ f
-    unfolding finish-of start-of start-on
-    finish-last = omega (arith, finish-is)
-
-    cost-most : c ≤ 200_000
+    cost-within : c ≤ cost-most
     unfolding row-on
-    cost-most = omega (arith, ap (λ r. r .cost) (by .row-is), cost-at-most W range i p)
+    cost-within = omega (arith, ap (λ r. r .cost) (by .row-is), cost-at-most W range i p)
 
-    pub kept-more :
-        Kept M W (k + 1) (set sits i p) (set starts i s) (set ends i f) (set costs i c) (set placed i true) (set until p f) (rb - c) (paid + c)
-        to-come (max length f)
+    pub kept-more : Kept M W (k + 1) (with-row state i row to-come)
     unfolding spent length-of is-placed RCB
     kept-more =
         let (task, free) = next-free range kept more next in
@@ -111,13 +105,12 @@ module _ {M : Method} (among : ChoosesAmong M) {W : Workflow} (range : InRange W
           placed-so-far = placed-more;
           columns = columns-more new (kept .rows) (kept .columns) in-array;
           marks = marks-more new (kept .rows) (kept .marks) in-array;
-          busy-until = until-more new (kept .rows) finish-last (kept .busy-until) in-until;
+          busy-until = until-more new (kept .rows) _ _ start-is finish-from-start (kept .busy-until) in-until;
           rb-is = omega (arith, kept .rb-is);
           spent-is = ap (λ x. x + c) (kept .spent-is);
           rcb-is = to-come-is;
           length-is = ap (λ x. max x f) (kept .length-is);
           count = omega (arith, kept .count);
-          ends-most = stored-at-most ends (λ t. omega (arith, kept .ends-most t)) (omega (arith, kept .columns .finishes-hold .size)) finish-most;
-          until-most = stored-at-most until (λ j. omega (arith, kept .until-most j)) (omega (arith, kept .busy-until .size)) finish-most;
-          spent-most = omega (arith, kept .spent-most, cost-most);
+          length-most = length-in-reach W (range .minutes-most) (range .transfer-in) new (kept .rows) k i p finish-is (kept .length-most);
+          spent-most = omega (arith, kept .spent-most, cost-within);
         }

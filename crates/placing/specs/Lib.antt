@@ -1,5 +1,6 @@
 pub mod Placed
 pub mod Standing
+pub mod State
 pub mod Kept
 pub mod Arrays
 pub mod KeptHand

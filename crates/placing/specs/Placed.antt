@@ -1,14 +1,16 @@
 -- What the code's placing says, in the rules' words.
 use Prim.Native.Nat.{ℕ, _+_, _-_, _<_}
 use mathlib.Core.Path.{_≡_}
-use mathlib.Core.Bool.{Bool, false, cond}
+use mathlib.Core.Bool.{Bool, false, cond, not}
 use mathlib.Core.List.{List, []}
 use lib.ListN.{length, getD}
+use Rattle.rules.specs.Orders.{Order, tie, higher, among}
 use Rattle.rules.specs.Workflow.{Workflow}
 use Rattle.rules.specs.Ranks.{R}
 use Rattle.rules.specs.Rows.{Row, Placed, row-of, spent, length-of}
 use Rattle.rules.specs.Method.{HBCS}
 use Rattle.rules.specs.Placing as rules
+use Rattle.laws.specs.Bounds.{rank-most}
 use Rattle.laws.specs.Stores.{at}
 use Rattle.hand.specs.Filled.{AtMost}
 use Rattle.placing.specs.declared.Outcome.{Outcome}
@@ -19,10 +21,14 @@ use Rattle.placing.specs.declared.Placing.{Placing}
 unfoldable pub standing-in : List ℕ → List Bool → ℕ → ℕ
 standing-in ranks placed i = cond (getD placed i false) 0 (at ranks i + 1)
 
+-- "Tasks are placed by falling R; equal R, lower number first", of those not placed: by ranks and marks in arrays.
+abbrev pub placing-order : List ℕ → List Bool → Order
+placing-order ranks placed = among (λ i. not (getD placed i false)) (higher (at ranks) tie)
+
 -- The array holds the ranks of all tasks.
 pub record RanksOf (W : Workflow) (ranks : List ℕ) : Type 0 where
   pub are : (i : ℕ) → i < W .tasks → at ranks i ≡ R W i
-  pub at-most : AtMost 3_072_000 ranks
+  pub at-most : AtMost rank-most ranks
 
 -- An array of 64 that holds one field of each task's row, and 0 for a task that has none.
 pub record Column (field : Row → ℕ) (rows : List Placed) (xs : List ℕ) : Type 0 where

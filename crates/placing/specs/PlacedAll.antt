@@ -1,21 +1,26 @@
 -- The two ways that placing ends: all tasks have a row, or one has no processor it may take.
 use Prim.Native.Nat.{ℕ}
 use mathlib.Core.Path.{_≡_, sym, ap, _∙_}
-use mathlib.Core.Bool.{Bool}
-use mathlib.Core.List.{List}
 use lib.ListN.{replicate}
 use Rattle.rules.specs.Workflow.{Workflow}
 use Rattle.rules.specs.Method.{HBCS}
 use Rattle.rules.specs.Placing.{so-far, stuck, place}
 use Rattle.placing.specs.declared.Outcome.the-variants as outcome
 use Rattle.placing.specs.Placed.{PlacedAs, told, rows-placed}
+use Rattle.placing.specs.State.{State}
 use Rattle.placing.specs.Kept.{Kept}
 use Rattle.placing.specs.Arrays.{columns-first}
 
 pub placed-all :
-    {W : Workflow} {k : ℕ} {sits starts ends costs : List ℕ} {placed : List Bool} {until : List ℕ} {rb paid rcb length : ℕ}
-    → Kept HBCS W k sits starts ends costs placed until rb paid rcb length → k ≡ W .tasks
-    → PlacedAs W (record { outcome = outcome.All length paid rb; processors = sits; starts = starts; finishes = ends; costs = costs })
+    {W : Workflow} {k : ℕ} {state : State} → Kept HBCS W k state → k ≡ W .tasks
+    → PlacedAs W
+    (record {
+      outcome = outcome.All (state .length) (state .spent) (state .rb);
+      processors = state .sits;
+      starts = state .starts;
+      finishes = state .ends;
+      costs = state .costs;
+    })
 unfolding told rows-placed
 placed-all {W} kept e =
     let all : place HBCS W (W .tasks) ≡ so-far (kept .rows) = ap (place HBCS W) (sym e) ∙ kept .placed-so-far in

@@ -9,6 +9,7 @@ use Rattle.rules.specs.Folds.{sum, largest}
 use Rattle.rules.specs.Workflow.{Workflow}
 use Rattle.rules.specs.Ranks.{rank-by}
 use Rattle.good.specs.Ranges.{InRange}
+use Rattle.laws.specs.Bounds.{rank-most}
 use Rattle.laws.specs.Folds.{largest-next, largest-of-none, largest-further}
 use Rattle.ranking.specs.Begins.{Begins, below-or-on, from-between}
 use Rattle.laws.specs.Stores.{at}
@@ -21,7 +22,7 @@ pub record Passed (W : Workflow) (ranks : List ℕ) (task begin end e most : ℕ
   pub to-end : e ≤ end
   pub largest-is : most ≡ largest e (over-edge W (at ranks) task)
   pub known : (k : ℕ) → begin ≤ k → k < e → 1 ≤ at ranks (W .to k)
-  pub at-most : most ≤ 3_088_000
+  pub at-most : most ≤ 16_000 + rank-most
 
 module _ (W : Workflow) (range : InRange W) (ranks : List ℕ) (task begin end : ℕ)
     (first : Begins W task begin) (last : Begins W (task + 1) end) where
@@ -46,7 +47,7 @@ module _ (W : Workflow) (range : InRange W) (ranks : List ℕ) (task begin end :
     edge-below = omega (arith, last .within)
 
     pub passed-more :
-        {most onward next : ℕ} → Passed W ranks task begin end e most → onward ≡ at ranks (W .to e) → 1 ≤ onward → onward ≤ 3_072_000
+        {most onward next : ℕ} → Passed W ranks task begin end e most → onward ≡ at ranks (W .to e) → 1 ≤ onward → onward ≤ rank-most
         → next ≡ max most (W .processors * W .transfer e + onward) → Passed W ranks task begin end (e + 1) next
     passed-more {most} {onward} {next} so-far there known few is =
         let from : W .from e ≡ task = from-between W range task begin end e first last (so-far .from-begin) below in

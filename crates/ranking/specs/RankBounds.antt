@@ -10,6 +10,7 @@ use Rattle.rules.specs.Folds.{sum, largest}
 use Rattle.rules.specs.Workflow.{Workflow}
 use Rattle.rules.specs.Ranks.{rank-by}
 use Rattle.good.specs.Ranges.{InRange}
+use Rattle.laws.specs.Bounds.{rank-added-most}
 use Rattle.laws.specs.Tests.{cond-either}
 use Rattle.laws.specs.Folds.{at-most-sum, at-most-largest, largest-at-most}
 
@@ -35,7 +36,7 @@ module _ (W : Workflow) (range : InRange W) where
   transfer-within e = mul-le-mul (range .processors-in .to-high) (range .transfer-in e)
 
   module _ (f : ℕ → ℕ) where
-    pub rank-within-more : (most : ℕ) → ((k : ℕ) → f k ≤ most) → (i : ℕ) → rank-by W f i ≤ 48_000 + most
+    pub rank-within-more : (most : ℕ) → ((k : ℕ) → f k ≤ most) → (i : ℕ) → rank-by W f i ≤ rank-added-most + most
     unfolding rank-by
     rank-within-more most each i =
         let over : largest (W .edges) (over-edge W f i) ≤ 16_000 + most =

@@ -9,6 +9,7 @@ use Rattle.laws.specs.Stores.{at}
 use Rattle.rules.specs.Workflow.{Workflow}
 use Rattle.rules.specs.Cycle.{cyclic}
 use Rattle.rules.specs.Ranks.{rank-by, R}
+use Rattle.laws.specs.Bounds.{rank-added-most, rank-most}
 use Rattle.laws.specs.Unmarked.{count-unmarked}
 use Rattle.laws.specs.Onward.{HasNext}
 use Rattle.ranking.specs.declared.Ranked.{Ranked}
@@ -25,7 +26,7 @@ pub record RankedSoFar (W : Workflow) (ranks : List ℕ) (left : ℕ) : Type 0 w
   pub equation : (i : ℕ) → i < W .tasks → 1 ≤ at ranks i → at ranks i ≡ rank-by W (at ranks) i
   pub successors : (e : ℕ) → e < W .edges → 1 ≤ at ranks (W .from e) → 1 ≤ at ranks (W .to e)
   pub past : (i : ℕ) → W .tasks ≤ i → at ranks i ≡ 0
-  pub at-most : (i : ℕ) → at ranks i + 48_000 * left ≤ 48_000 * W .tasks
+  pub at-most : (i : ℕ) → at ranks i + rank-added-most * left ≤ rank-added-most * W .tasks
 
 -- A rank that is not known.
 abbrev pub Unknown : List ℕ → ℕ → Type 0
@@ -44,12 +45,11 @@ HeldUp W ranks i = Unknown ranks i → HasNext W (Unknown ranks) i
 abbrev pub AllHeldUp : Workflow → ℕ → List ℕ → Type 0
 AllHeldUp W first ranks = (i : ℕ) → first ≤ i → i < W .tasks → HeldUp W ranks i
 
--- "R(i) = ..", for all tasks unless the edges have a cycle. Each rank is at most 64 times (16 times 2,000 and 16 times 1,000). The array is 0 past the
--- last task, and throughout where there is a cycle.
+-- "R(i) = ..", for all tasks unless the edges have a cycle. The array is 0 past the last task, and throughout where there is a cycle.
 pub record RankedAs (W : Workflow) (r : Ranked) : Type 0 where
   pub all-unless-cyclic : r .all ≡ not (cyclic W)
   pub size : length (r .ranks) ≡ 64
   pub ranks-are : r .all ≡ true → (i : ℕ) → i < W .tasks → at (r .ranks) i ≡ R W i
   pub past : (i : ℕ) → W .tasks ≤ i → at (r .ranks) i ≡ 0
   pub none-with-cycle : r .all ≡ false → (i : ℕ) → at (r .ranks) i ≡ 0
-  pub at-most : (i : ℕ) → at (r .ranks) i ≤ 3_072_000
+  pub at-most : (i : ℕ) → at (r .ranks) i ≤ rank-most

@@ -12,6 +12,7 @@ use Rattle.rules.specs.Workflow.{Workflow}
 use Rattle.rules.specs.Cycle.{Leads, cyclic}
 use Rattle.rules.specs.Ranks.{rank-by}
 use Rattle.good.specs.Ranges.{InRange}
+use Rattle.laws.specs.Bounds.{rank-most}
 use Rattle.laws.specs.Tests.{false-unless-true}
 use Rattle.laws.specs.Folds.{sum-same}
 use Rattle.laws.specs.Unmarked.{count-unmarked-at-first, some-unmarked, none-unmarked}
@@ -24,7 +25,7 @@ use Rattle.ranking.specs.Ranked.{has-rank, RankedSoFar, Unknown, HeldUp,
 use Rattle.ranking.specs.RankBounds.{rank-falls}
 
 module _ (W : Workflow) (range : InRange W) where
-  pub known-at-most : (ranks : List ℕ) (left : ℕ) → RankedSoFar W ranks left → (k : ℕ) → at ranks k ≤ 3_072_000
+  pub known-at-most : (ranks : List ℕ) (left : ℕ) → RankedSoFar W ranks left → (k : ℕ) → at ranks k ≤ rank-most
   known-at-most ranks left so-far k = omega (arith, so-far .at-most k, range .tasks-in .to-high)
 
   -- At first no rank is known.

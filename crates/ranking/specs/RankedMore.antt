@@ -11,6 +11,7 @@ use borrow.Author.Tests.{lt-ltb, eq-eqb, ne-eqb, eqb-true}
 use Rattle.rules.specs.Workflow.{Workflow}
 use Rattle.rules.specs.Ranks.{rank-by}
 use Rattle.good.specs.Ranges.{InRange}
+use Rattle.laws.specs.Bounds.{rank-added-most}
 use Rattle.laws.specs.Folds.{sum-same}
 use Rattle.laws.specs.Unmarked.{count-unmarked, and-marked, sum-unmarked-less}
 use Rattle.laws.specs.Ranks.{rank-by-same}
@@ -82,13 +83,13 @@ module _ (W : Workflow) (range : InRange W) where
         (same-at (W .from e)) in
         omega (arith, known-stays (W .to e) known-before)
 
-    at-most-now : (k : ℕ) → at (set ranks i r) k + 48_000 * (left - 1) ≤ 48_000 * W .tasks
+    at-most-now : (k : ℕ) → at (set ranks i r) k + rank-added-most * (left - 1) ≤ rank-added-most * W .tasks
     at-most-now k =
         let some : 1 ≤ left = some-left in
         ⊎-elim
         (λ (q : i ≡ k).
-        let most : rank-by W (at ranks) i ≤ 48_000 + (48_000 * W .tasks - 48_000 * left) =
-        rank-within-more W range (at ranks) (48_000 * W .tasks - 48_000 * left) (λ j. omega (arith, so-far .at-most j)) i in
+        let most : rank-by W (at ranks) i ≤ rank-added-most + (rank-added-most * W .tasks - rank-added-most * left) =
+        rank-within-more W range (at ranks) (rank-added-most * W .tasks - rank-added-most * left) (λ j. omega (arith, so-far .at-most j)) i in
         omega (arith, ap (at (set ranks i r)) q, at-itself, is, so-far .at-most i))
         (λ (same : at (set ranks i r) k ≡ at ranks k). omega (arith, so-far .at-most k))
         (same-at k)

@@ -6,6 +6,7 @@ ghost use lib.Dec.{eqb};
 ghost use lib.ListN.{getD};
 ghost use Rattle.rules.specs.Folds.{sum};
 ghost use Rattle.rules.specs.Cycle.{back-to-itself, cyclic, lowest-in-cycle};
+ghost use Rattle.laws.specs.Bounds.{rank-most};
 ghost use Rattle.reader.specs.Meaning.{ViewOf};
 ghost use Rattle.lookup.specs.Lookup.{workflow-of};
 ghost use Rattle.ranking.specs.Turned.{Turned};
@@ -72,7 +73,7 @@ fn begins_all(s: &[u8], v: View) -> [u16; 65]
 // The rank of a task once its successors have theirs; 0 while one has not.
 fn rank_of(s: &[u8], v: View, ranks: &[u64; 64], task: usize, begin: usize, end: usize) -> u64
     requires { ⌜ ViewOf (now s) v ⌝ }
-    requires { ⌜ (task < v .tasks) × ((k : ℕ) → getD (now ranks) k 0 ≤ 3_072_000) ⌝ }
+    requires { ⌜ (task < v .tasks) × ((k : ℕ) → getD (now ranks) k 0 ≤ rank-most) ⌝ }
     requires { ⌜ Begins (workflow-of (now s) v) task begin × Begins (workflow-of (now s) v) (task + 1) end ⌝ }
     ensures { λ r. ⌜ NextRank (workflow-of (now (s .entry)) v) (now (ranks .entry)) task r ⌝ }
 {

@@ -17,6 +17,7 @@ use Rattle.good.specs.ReadIsGood.{read-is-good}
 use Rattle.good.specs.RangeLaws.{good-in-range}
 use Rattle.good.specs.Labels.{good-label}
 use Rattle.good.specs.Program.{program-is-text}
+use Rattle.laws.specs.Bounds.{cost-most, total-most}
 use Rattle.laws.specs.Folds.{sum-at-most-each}
 use Rattle.hand.specs.HandLaws.{cost-at-most}
 use Rattle.demands.specs.Demand1.LabelBytes.{label-bytes-length}
@@ -33,19 +34,19 @@ use Rattle.text.specs.LineBounds.{plan-line-at-most, refusal-line-at-mos
 abbrev outcome-text : List ℕ → Outcome → List ℕ
 outcome-text s o = first-line (answer-of o) ++ row-lines s o
 
-refusal-at-most : (s : List ℕ) (number place : ℕ) → number ≤ 11 → place ≤ 12_800_000 → length (outcome-text s (refusal number place)) ≤ 2_145
+refusal-at-most : (s : List ℕ) (number place : ℕ) → number ≤ 11 → place ≤ total-most → length (outcome-text s (refusal number place)) ≤ 2_145
 unfolding answer-of row-lines
 refusal-at-most s number place number-in place-in =
     omega (arith, length-append (first-line (refused number place)) [], refusal-line-at-most number place number-in place-in)
 
 module _ (s : List ℕ) (W : Workflow) (range : InRange W) where
   -- The cheapest choice of processors costs no more than any, such as the first for every task.
-  cheapest-at-most : {total : ℕ} → TooDear W total → total ≤ 12_800_000
+  cheapest-at-most : {total : ℕ} → TooDear W total → total ≤ total-most
   cheapest-at-most dear =
       omega (
         arith,
         dear .at-least (λ i. 0) (λ i l. range .processors-in .from-low),
-        sum-at-most-each (W .tasks) (λ i. cost W i 0) 200_000 (λ i l. cost-at-most W range i 0),
+        sum-at-most-each (W .tasks) (λ i. cost W i 0) cost-most (λ i l. cost-at-most W range i 0),
         range .tasks-in .to-high,
       )
 

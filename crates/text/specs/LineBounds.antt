@@ -8,6 +8,7 @@ use lib.ListN.{length, length-append}
 use Rattle.rules.specs.Rows.{Row}
 use Rattle.rules.specs.Answer.{planned, refused}
 use Rattle.rules.specs.Text.{bytes, decimal, line, first-line, row-line, lines}
+use Rattle.laws.specs.Bounds.{finish-most, total-most, budget-most}
 use Rattle.text.specs.Decimals.{decimal-length}
 use Rattle.text.specs.Lines.{four-numbers, four-fields, refusal-line}
 use Rattle.text.specs.PlanBounds.{RowBounds}
@@ -17,7 +18,7 @@ four-length : (a b c d : ℕ) →
     length (four-numbers a b c d) ≡ length (decimal a) + length (decimal b) + length (decimal c) + length (decimal d) + 4
 four-length a b c d = rw (four-fields a b c d) (simp length-append (omega arith))
 
-pub plan-line-at-most : (n long cost left : ℕ) → n ≤ 64 → long ≤ 192_000 → cost ≤ 12_800_000 → left ≤ 20_000_000
+pub plan-line-at-most : (n long cost left : ℕ) → n ≤ 64 → long ≤ finish-most → cost ≤ total-most → left ≤ budget-most
     → length (first-line (planned n long cost left)) ≤ 33
 unfolding first-line bytes four-numbers
 plan-line-at-most n long cost left n-in long-in cost-in left-in =
@@ -30,7 +31,7 @@ plan-line-at-most n long cost left n-in long-in cost-in left-in =
       decimal-length 7 left (omega arith),
     )
 
-pub refusal-line-at-most : (number place : ℕ) → number ≤ 11 → place ≤ 12_800_000 → length (first-line (refused number place)) ≤ 15
+pub refusal-line-at-most : (number place : ℕ) → number ≤ 11 → place ≤ total-most → length (first-line (refused number place)) ≤ 15
 unfolding bytes
 refusal-line-at-most number place number-in place-in =
     rw (refusal-line number place)

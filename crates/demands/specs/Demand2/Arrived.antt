@@ -13,7 +13,7 @@ use Rattle.rules.specs.Rows.{Placed, row-of, is-placed, busy}
 use Rattle.rules.specs.Method.{Method}
 use Rattle.rules.specs.Placing.{ready-for, start-of, row-on}
 use Rattle.laws.specs.Folds.{at-most-largest}
-use Rattle.demands.specs.StartLaws.{start-not-before-ready}
+use Rattle.laws.specs.StartLaws.{start-not-before-ready}
 use Rattle.demands.specs.Demand2.Lookup.{none-placed, old-placed, old-row, each-row}
 use Rattle.demands.specs.Ground.GoodWorkflow.{GoodWorkflow}
 use Rattle.demands.specs.Demand2.Order.{predecessors-placed}

@@ -13,7 +13,7 @@ use Rattle.rules.specs.Start.{Interval}
 use Rattle.rules.specs.Rows.{Row, Placed, row-of, is-placed, busy}
 use Rattle.rules.specs.Method.{Method}
 use Rattle.rules.specs.Placing.{ready-for, start-of, finish-of, row-on}
-use Rattle.demands.specs.StartLaws.{start-overlaps-nothing}
+use Rattle.laws.specs.StartLaws.{start-overlaps-nothing}
 use Rattle.demands.specs.Demand2.Lookup.{none-placed, each-row}
 use Rattle.demands.specs.Demand2.Built.{placed-on, Built, at-first, one-more}
 

@@ -15,11 +15,11 @@ use Rattle.rules.specs.Placing.{ready-for, start-of, finish-of, RB, RCB, questi
 use Rattle.rules.specs.Multiplied.{multiplied, multiplied-row}
 use Rattle.laws.specs.Numbers.{or-zero-multiplied, zero-or-multiplied}
 use Rattle.laws.specs.Folds.{sum-multiplied, largest-multiplied}
+use Rattle.laws.specs.StartLaws.{start-on-multiplied}
 use Rattle.demands.specs.Ground.MethodLaws.{multiplied-question, KeepsChoices}
 use Rattle.demands.specs.Demand3.CostsMultiplied.{cost-multiplied, lowest-cost-multiplied, next-task-multiplied}
 use Rattle.demands.specs.Demand3.RowsMultiplied.{multiplied-placed, is-placed-multiplied, row-of-multiplied, spent-multiplied}
 use Rattle.demands.specs.Demand3.RowsMultiplied.{busy-multiplied}
-use Rattle.demands.specs.StartLaws.{start-on-multiplied}
 
 unfoldable pub multiplied-placing : ℕ → ℕ → Placing → Placing
 multiplied-placing a b (so-far rows) = so-far (map (multiplied-placed a b) rows)

@@ -10,7 +10,7 @@ use Rattle.rules.specs.Rows.{Placed, row-of, is-placed, busy, spent, length-of}
 use Rattle.rules.specs.Multiplied.{multiplied-row}
 use Rattle.laws.specs.Tests.{cond-mapped}
 use Rattle.laws.specs.Numbers.{max-multiplied}
-use Rattle.demands.specs.StartLaws.{multiplied-interval}
+use Rattle.laws.specs.StartLaws.{multiplied-interval}
 
 unfoldable pub multiplied-placed : ℕ → ℕ → Placed → Placed
 multiplied-placed a b p = record { task = p .task; row = multiplied-row a b (p .row) }

@@ -6,7 +6,7 @@ use Rattle.lookup.specs.Lookup.{workflow-of}
 use Rattle.lookup.specs.Views.{view-in-range}
 use Rattle.laws.specs.Stores.{at}
 use Rattle.hand.specs.Busy.{kept-busy}
-use Rattle.hand.specs.Hand.{question-by, hand-by}
+use Rattle.hand.specs.Hand.{hand-of}
 use Rattle.hand.specs.HandLaws.{RowOn, finish-at-most, asked-in-range, row-on, no-row}
 use borrow.Author.Needs.{needs}
 use native.Mathlib.Omega.{arith}
@@ -25,8 +25,7 @@ chosen-row :
     let W = workflow-of (a .s .now) (a .v) in
     let busy = kept-busy (a .until .now) in
     RowOn W (a .task) (c .before .choice .given .0 .0) (a .costs .now) (c .before .before .before .before .before .finish-on-all .result)
-    (hand-by W (at (a .ready .now)) busy (a .task)
-    (HBCS (question-by W (at (a .ready .now)) busy (a .task) (a .rb) (a .rcb))))
+    (hand-of W (at (a .ready .now)) busy (a .task) HBCS (a .rb) (a .rcb))
 unfolding workflow
 chosen-row c =
     let a = c .before .before .before .before .before .before .before .args in
@@ -43,11 +42,11 @@ processor-below c =
     let pre = c .before .before .before .before .before .before .before .pre in
     omega (arith, chosen-row c .processor, view-in-range (a .s .now) (a .v) (pre .0) .processors-in)
 
--- src/lib.rt:164:20
+-- src/lib.rt:166:20
 finish-on-all-requires : tie.Need-finish-on-all-requires
 finish-on-all-requires c κs = search needs
 
--- src/lib.rt:165:9
+-- src/lib.rt:167:9
 choose-requires : tie.Need-choose-requires
 unfolding workflow
 choose-requires c κs =
@@ -57,20 +56,19 @@ choose-requires c κs =
     let range = view-in-range (a .s .now) (a .v) (pre .0) in
     let finishes = c .before .finish-on-all .ensures in
     asked-in-range W range (a .task) _ _ (a .rb) (a .rcb) (pre .1 .1 .0) finishes
-    (λ j.
-    omega (arith, finish-at-most W range (a .task) (at (a .ready .now)) (a .until .now) 193_000 (pre .1 .0 .1) (pre .1 .0 .2) j))
+    (finish-at-most W range (a .task) (at (a .ready .now)) (a .until .now) (pre .1 .0 .1) (pre .1 .0 .2))
     (pre .1 .1 .1)
     (pre .1 .1 .2)
 
--- src/lib.rt:166:22
+-- src/lib.rt:168:22
 enum-known-choice : tie.Need-enum-known-choice
 enum-known-choice c = search needs
 
--- src/lib.rt:167:9
+-- src/lib.rt:169:9
 enum-told : tie.Need-enum-told
 enum-told c = search needs
 
--- src/lib.rt:167:9
+-- src/lib.rt:169:9
 returns : tie.Need-returns
 unfolding workflow
 returns c =
@@ -81,34 +79,34 @@ returns c =
     let choose = c .before .before .choose in
     no-row _ range (a .task) _ _ (a .rb) (a .rcb) (pre .1 .1 .0) finishes (choose .ensures) (c .enum-told .given .1)
 
--- src/lib.rt:169:18
+-- src/lib.rt:171:18
 mul-finish : tie.Need-mul-finish
 mul-finish c = omega (arith, processor-below c)
 
--- src/lib.rt:169:18
+-- src/lib.rt:171:18
 array-read-finish : tie.Need-array-read-finish
 array-read-finish c = processor-below c
 
--- src/lib.rt:170:16
+-- src/lib.rt:172:16
 mul-cost : tie.Need-mul-cost
 mul-cost c = omega (arith, processor-below c)
 
--- src/lib.rt:170:16
+-- src/lib.rt:172:16
 element-copy-out-cost : tie.Need-element-copy-out-cost
 element-copy-out-cost c = processor-below c
 
--- src/lib.rt:173:25
+-- src/lib.rt:175:25
 minutes-requires : tie.Need-minutes-requires
 unfolding workflow
 minutes-requires c κs =
     let pre = c .before .before .before .before .before .before .before .before .pre in
     (pre .0, (pre .1 .0 .0, chosen-row (c .before) .processor))
 
--- src/lib.rt:173:16
+-- src/lib.rt:175:16
 sub-t22 : tie.Need-sub-t22
 sub-t22 c = omega (arith, chosen-row (c .before .before) .minutes-in-finish, c .minutes .ensures .0)
 
--- src/lib.rt:149:1
+-- src/lib.rt:151:1
 returns-2 : tie.Need-returns-2
 returns-2 c = rw (c .minutes .ensures .0) (chosen-row (c .before .before) .row-is)
 

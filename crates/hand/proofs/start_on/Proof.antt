@@ -1,6 +1,8 @@
 -- The larger of ready and the latest finish that is kept.
 use mathlib.Core.Path.{sym, _∙_}
-use Rattle.hand.specs.HandLaws.{start-on-kept}
+use Rattle.laws.specs.StartLaws.{start-up-to}
+use Rattle.laws.specs.Stores.{at}
+use Rattle.hand.specs.Busy.{kept-busy}
 use borrow.Author.Needs.{needs}
 use Rattle.hand.proofs.start_on.Statement.{statement}
 use Rattle.hand.proofs.start_on.Tie as tie
@@ -8,23 +10,24 @@ use Rattle.hand.proofs.start_on.Reads as reads
 use Rattle.hand.proofs.start_on.Lts as lts
 use Rattle.numbers.proofs.larger.Reads as larger-reads
 
--- src/lib.rt:84:18
+-- src/lib.rt:86:18
 mul-latest : tie.Need-mul-latest
 mul-latest c = search needs
 
--- src/lib.rt:84:18
+-- src/lib.rt:86:18
 element-copy-out-latest : tie.Need-element-copy-out-latest
 element-copy-out-latest c = search needs
 
--- src/lib.rt:85:5
+-- src/lib.rt:87:5
 larger-requires : tie.Need-larger-requires
 larger-requires c κs = search needs
 
--- src/lib.rt:80:1
+-- src/lib.rt:82:1
 returns : tie.Need-returns
+unfolding kept-busy
 returns c =
     let a = c .before .before .args in
-    c .larger .ensures ∙ sym (start-on-kept (a .until .now) (a .j) (a .ready) (a .minutes))
+    c .larger .ensures ∙ sym (start-up-to (at (a .until .now) (a .j)) (a .ready) (a .minutes))
 
 pub start-on-spec : {M : Type 1} → statement M
 start-on-spec = tie.close (tie.spec mul-latest element-copy-out-latest larger-requires returns)

@@ -1,12 +1,11 @@
 -- After each turn the rows so far are the rules', and what is kept is what they come to; a turn without a row is where the rules are stuck.
-use Prim.Native.Nat.{_+_, _-_, _≤_, _<_, max}
+use Prim.Native.Nat.{ℕ, _+_, _-_, _≤_, _<_}
 use mathlib.Core.Path.{_≡_, refl, _∙_}
-use mathlib.Core.Bool.{true}
+use mathlib.Core.Bool.{Bool}
 use mathlib.Core.List.{List}
-use lib.ListN.{set}
 use Rattle.rules.specs.Workflow.{Workflow, workflow}
 use Rattle.rules.specs.Ranks.{next-task}
-use Rattle.rules.specs.Rows.{Placed, is-placed}
+use Rattle.rules.specs.Rows.{Row, Placed, is-placed}
 use Rattle.rules.specs.Method.{HBCS}
 use Rattle.rules.specs.Placing.{RCB}
 use Rattle.good.specs.Ranges.{InRange}
@@ -14,8 +13,10 @@ use Rattle.lookup.specs.Lookup.{workflow-of}
 use Rattle.lookup.specs.Views.{view-in-range}
 use Rattle.laws.specs.Method.{HBCS-chooses-among}
 use Rattle.hand.specs.HandLaws.{lowest-filled}
+use Rattle.hand.specs.declared.Processors.{Processors}
+use Rattle.placing.specs.State.{State, with-row}
 use Rattle.placing.specs.Kept.{Kept}
-use Rattle.placing.specs.KeptHand.{ready-in-turn}
+use Rattle.placing.specs.KeptHand.{ready-within}
 use Rattle.placing.specs.KeptLaws.{kept-first, ends-within, until-within, rb-within, rcb-within, next-kept, next-free, rcb-less}
 use Rattle.placing.specs.KeptMore.{processor, kept-stuck, kept-more}
 use Rattle.placing.specs.PlacedAll.{placed-all, placed-stuck}
@@ -34,28 +35,44 @@ use Rattle.numbers.proofs.larger.Reads as larger-reads
 use Rattle.numbers.proofs.less.Reads as less-reads
 use Rattle.placing.proofs.next_task.Reads as next-task-reads
 
+-- The locals of a turn.
+abbrev kept-in : (sits starts ends costs : List ℕ) (placed : List Bool) (processors : Processors) (rb spent rcb length : ℕ) → State
+kept-in sits starts ends costs placed processors rb spent rcb length =
+    record {
+      sits = sits;
+      starts = starts;
+      ends = ends;
+      costs = costs;
+      placed = placed;
+      until = processors .until;
+      rb = rb;
+      spent = spent;
+      rcb = rcb;
+      length = length;
+    }
+
 abbrev Inv-loop : tie.InvT-loop
 Inv-loop s v ranks cheapest links sits₀ starts₀ ends₀ costs₀ placed₀ processors₀ rb₀ spent₀ rcb₀ length₀ k₀
     sits starts ends costs placed processors rb spent rcb length k =
-    (k ≤ v .tasks) × Kept HBCS (workflow-of s v) k sits starts ends costs placed (processors .until) rb spent rcb length
+    (k ≤ v .tasks) × Kept HBCS (workflow-of s v) k (kept-in sits starts ends costs placed processors rb spent rcb length)
 
 abbrev μ-loop : tie.MeasureT-loop
 μ-loop s v ranks cheapest links sits₀ starts₀ ends₀ costs₀ placed₀ processors₀ rb₀ spent₀ rcb₀ length₀ k₀
     sits starts ends costs placed processors rb spent rcb length k =
     v .tasks - k
 
--- src/lib.rt:62:17
+-- src/lib.rt:61:17
 link-all-requires : tie.Need-link-all-requires Inv-loop μ-loop
 link-all-requires c κs = c .before .pre .0
 
--- src/lib.rt:74:5
+-- src/lib.rt:73:5
 loop-holds : tie.Need-loop-holds Inv-loop μ-loop
 unfolding workflow
 loop-holds c =
     let pre = c .before .before .pre in
     (omega arith, kept-first HBCS _ refl (pre .1 .1))
 
--- src/lib.rt:75:13
+-- src/lib.rt:74:13
 next-task-requires : tie.Need-next-task-requires Inv-loop μ-loop
 unfolding workflow
 next-task-requires c κs =
@@ -112,12 +129,11 @@ turned : (c : tie.After-known-told Inv-loop μ-loop) →
     let loop = turn .before .before .before .before .loop in
     let i = turn .next-task .result in
     let given = c .before .row .given .0 in
-    let p = given .0 in
-    let finish = given .1 .1 .0 in
-    let cost = given .1 .1 .1 .0 in
-    (p < 16) × Kept HBCS (flow turn) (loop .k + 1) (set (loop .sits) i p) (set (loop .starts) i (given .1 .0)) (set (loop .ends) i finish)
-    (set (loop .costs) i cost) (set (loop .placed) i true) (set (loop .processors .until) p finish) (loop .rb - cost) (loop .spent + cost)
-    (loop .rcb - c .before .before .before .before .before .before .before .before .before .before .before .before .before .before .lowest-of .result) (max (loop .length) finish)
+    let row : Row = record { processor = given .0; start = given .1 .0; finish = given .1 .1 .0; cost = given .1 .1 .1 .0 } in
+    let state = kept-in (loop .sits) (loop .starts) (loop .ends) (loop .costs) (loop .placed) (loop .processors) (loop .rb) (loop .spent) (loop .rcb) (loop .length) in
+    (row .processor < 16) × Kept HBCS (flow turn) (loop .k + 1)
+    (with-row state i row
+    (loop .rcb - c .before .before .before .before .before .before .before .before .before .before .before .before .before .before .lowest-of .result))
 unfolding workflow
 turned c =
     let turn = turn-of c in
@@ -129,25 +145,25 @@ turned c =
     let below = processor HBCS-chooses-among (in-range turn) kept (left turn) (next-is turn) all-ready to-come handed in
     (omega (arith, below, processors-in .to-high), kept-more HBCS-chooses-among (in-range turn) kept (left turn) (next-is turn) all-ready to-come handed)
 
--- src/lib.rt:76:24
+-- src/lib.rt:75:24
 cost-on-all-requires : tie.Need-cost-on-all-requires Inv-loop μ-loop
 unfolding workflow
 cost-on-all-requires c κs =
     let start = c .before .before .before .before .before .before .before in
     (start .pre .0, task-below c)
 
--- src/lib.rt:77:13
+-- src/lib.rt:76:13
 lowest-of-requires : tie.Need-lowest-of-requires Inv-loop μ-loop
 unfolding workflow
 lowest-of-requires c κs =
     let processors-in = in-range (c .before .before) .processors-in in
     (processors-in .from-low, processors-in .to-high)
 
--- src/lib.rt:78:15
+-- src/lib.rt:77:15
 sub-rcb : tie.Need-sub-rcb Inv-loop μ-loop
 sub-rcb c = rcb-is c .0
 
--- src/lib.rt:79:21
+-- src/lib.rt:78:21
 ready-on-all-requires : tie.Need-ready-on-all-requires Inv-loop μ-loop
 unfolding workflow
 ready-on-all-requires c κs =
@@ -155,7 +171,7 @@ ready-on-all-requires c κs =
     let kept = turn .before .before .before .before .loop .inv .1 in
     (turn .before .before .before .before .before .before .before .pre .0, (task-below turn, turn .before .before .before .before .before .link-all .ensures, ends-within (in-range turn) kept (left turn)))
 
--- src/lib.rt:80:13
+-- src/lib.rt:79:13
 row-for-requires : tie.Need-row-for-requires Inv-loop μ-loop
 unfolding workflow
 row-for-requires c κs =
@@ -167,22 +183,22 @@ row-for-requires c κs =
       (
         (
           task-below turn,
-          ready-in-turn HBCS-chooses-among (in-range turn) kept _ all-ready (left turn),
+          ready-within HBCS-chooses-among (in-range turn) kept _ all-ready (left turn),
           until-within (in-range turn) kept (left turn),
         ),
         (costs-of .ensures, rb-within (in-range turn) kept (left turn), omega (arith, rcb-within (in-range turn) kept (left turn))),
       ),
     )
 
--- src/lib.rt:82:13
+-- src/lib.rt:81:13
 enum-known-row : tie.Need-enum-known-row Inv-loop μ-loop
 enum-known-row c = search needs
 
--- src/lib.rt:89:26
+-- src/lib.rt:88:26
 enum-told : tie.Need-enum-told Inv-loop μ-loop
 enum-told c = search needs
 
--- src/lib.rt:88:13
+-- src/lib.rt:87:13
 returns : tie.Need-returns Inv-loop μ-loop
 unfolding workflow
 returns c =
@@ -193,81 +209,81 @@ returns c =
     let handed = rw (c .enum-told .given .1) at (c .before .before .row-for .ensures) in
     placed-stuck (kept-stuck HBCS-chooses-among (in-range turn) kept (left turn) (next-is turn) all-ready to-come handed)
 
--- src/lib.rt:96:9
+-- src/lib.rt:95:9
 mul-sits : tie.Need-mul-sits Inv-loop μ-loop
 mul-sits c = omega (arith, task-in-array (turn-of c))
 
--- src/lib.rt:96:9
+-- src/lib.rt:95:9
 array-write-sits : tie.Need-array-write-sits Inv-loop μ-loop
 array-write-sits c = task-in-array (turn-of c)
 
--- src/lib.rt:97:9
+-- src/lib.rt:96:9
 mul-starts : tie.Need-mul-starts Inv-loop μ-loop
 mul-starts c = omega (arith, task-in-array (turn-of c))
 
--- src/lib.rt:97:9
+-- src/lib.rt:96:9
 array-write-starts : tie.Need-array-write-starts Inv-loop μ-loop
 array-write-starts c = task-in-array (turn-of c)
 
--- src/lib.rt:98:9
+-- src/lib.rt:97:9
 mul-ends : tie.Need-mul-ends Inv-loop μ-loop
 mul-ends c = omega (arith, task-in-array (turn-of c))
 
--- src/lib.rt:98:9
+-- src/lib.rt:97:9
 array-write-ends : tie.Need-array-write-ends Inv-loop μ-loop
 array-write-ends c = task-in-array (turn-of c)
 
--- src/lib.rt:99:9
+-- src/lib.rt:98:9
 mul-costs : tie.Need-mul-costs Inv-loop μ-loop
 mul-costs c = omega (arith, task-in-array (turn-of c))
 
--- src/lib.rt:99:9
+-- src/lib.rt:98:9
 array-write-costs : tie.Need-array-write-costs Inv-loop μ-loop
 array-write-costs c = task-in-array (turn-of c)
 
--- src/lib.rt:100:9
+-- src/lib.rt:99:9
 array-write-placed : tie.Need-array-write-placed Inv-loop μ-loop
 array-write-placed c = task-in-array (turn-of c)
 
--- src/lib.rt:101:9
+-- src/lib.rt:100:9
 mul-processors : tie.Need-mul-processors Inv-loop μ-loop
 mul-processors c = omega (arith, turned c .0)
 
--- src/lib.rt:101:9
+-- src/lib.rt:100:9
 element-write-processors : tie.Need-element-write-processors Inv-loop μ-loop
 element-write-processors c = turned c .0
 
--- src/lib.rt:102:9
+-- src/lib.rt:101:9
 less-requires : tie.Need-less-requires Inv-loop μ-loop
 less-requires c κs = search needs
 
--- src/lib.rt:103:17
+-- src/lib.rt:102:17
 add-spent : tie.Need-add-spent Inv-loop μ-loop
 add-spent c = omega (arith, turned (c .before) .1 .spent-most, left (turn-of (c .before)), in-range (turn-of (c .before)) .tasks-in)
 
--- src/lib.rt:104:9
+-- src/lib.rt:103:9
 larger-requires : tie.Need-larger-requires Inv-loop μ-loop
 larger-requires c κs = search needs
 
--- src/lib.rt:105:9
+-- src/lib.rt:104:9
 add-k : tie.Need-add-k Inv-loop μ-loop
 add-k c =
     let turn = turn-of (c .before .before) in
     omega (arith, left turn, in-range turn .tasks-in)
 
--- src/lib.rt:74:5
+-- src/lib.rt:73:5
 loop-less : tie.Need-loop-less Inv-loop μ-loop
 unfolding workflow
 loop-less c = omega (arith, left (turn-of (c .before .before)))
 
--- src/lib.rt:74:5
+-- src/lib.rt:73:5
 loop-again : tie.Need-loop-again Inv-loop μ-loop
 unfolding workflow
 loop-again c =
     let turned = turned (c .before .before) .1 in
     (omega (arith, left (turn-of (c .before .before))), rw (c .larger .ensures, c .before .less .ensures) turned)
 
--- src/lib.rt:57:1
+-- src/lib.rt:56:1
 returns-2 : tie.Need-returns-2 Inv-loop μ-loop
 unfolding workflow
 returns-2 c = placed-all (c .before .before .loop .inv .1) (omega arith)

@@ -19,7 +19,7 @@ Inv-loop s v start marks₀ left₀ marks left = MarkedSoFar (workflow-of s v) s
 abbrev μ-loop : tie.MeasureT-loop
 μ-loop s v start marks₀ left₀ marks left = left
 
--- src/lib.rt:213:5
+-- src/lib.rt:214:5
 loop-holds : tie.Need-loop-holds Inv-loop μ-loop
 unfolding workflow
 loop-holds c =
@@ -27,11 +27,11 @@ loop-holds c =
     let a = c .before .args in
     marked-none (workflow-of (a .s .now) (a .v)) (view-in-range (a .s .now) (a .v) (pre .0)) (a .start)
 
--- src/lib.rt:215:9
+-- src/lib.rt:216:9
 mark-pass-requires : tie.Need-mark-pass-requires Inv-loop μ-loop
 mark-pass-requires c κs = (c .before .before .before .before .pre .0, c .before .before .loop .inv)
 
--- src/lib.rt:217:20
+-- src/lib.rt:218:20
 array-read-result : tie.Need-array-read-result Inv-loop μ-loop
 unfolding workflow
 array-read-result c =
@@ -39,7 +39,7 @@ array-read-result c =
     let a = c .before .before .before .before .before .before .args in
     omega (arith, pre .1, view-in-range (a .s .now) (a .v) (pre .0) .tasks-in)
 
--- src/lib.rt:217:13
+-- src/lib.rt:218:13
 returns : tie.Need-returns Inv-loop μ-loop
 unfolding workflow
 returns c =
@@ -52,15 +52,15 @@ returns c =
     let turned = mark-pass .ensures in
     start-marked W range (a .start) _ (turned-still turned (if1 .taken)) _ (turned .kept)
 
--- src/lib.rt:213:5
+-- src/lib.rt:214:5
 loop-less : tie.Need-loop-less Inv-loop μ-loop
 loop-less c = turned-less (c .before .mark-pass .ensures) (c .if1 .left)
 
--- src/lib.rt:213:5
+-- src/lib.rt:214:5
 loop-again : tie.Need-loop-again Inv-loop μ-loop
 loop-again c = c .before .mark-pass .ensures .kept
 
--- src/lib.rt:206:1
+-- src/lib.rt:207:1
 returns-2 : tie.Need-returns-2 Inv-loop μ-loop
 unfolding workflow
 returns-2 c =

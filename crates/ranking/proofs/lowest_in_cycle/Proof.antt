@@ -22,15 +22,15 @@ Inv-loop s v task₀ task =
 abbrev μ-loop : tie.MeasureT-loop
 μ-loop s v task₀ task = v .tasks - task
 
--- src/lib.rt:230:5
+-- src/lib.rt:231:5
 loop-holds : tie.Need-loop-holds Inv-loop μ-loop
 loop-holds c = (omega arith, λ k l. absurd (omega arith))
 
--- src/lib.rt:231:12
+-- src/lib.rt:232:12
 leads-back-requires : tie.Need-leads-back-requires Inv-loop μ-loop
 leads-back-requires c κs = (c .before .before .before .before .pre .0, omega arith)
 
--- src/lib.rt:232:13
+-- src/lib.rt:233:13
 returns : tie.Need-returns Inv-loop μ-loop
 returns c =
     let pre = c .before .before .before .before .before .before .pre in
@@ -43,15 +43,15 @@ returns c =
     first-is-lowest W range (pre .1) (loop .task) (loop .inv .1)
     (sym (if2 .taken) ∙ leads-back .ensures)
 
--- src/lib.rt:234:9
+-- src/lib.rt:235:9
 add-task : tie.Need-add-task Inv-loop μ-loop
 add-task c = omega arith
 
--- src/lib.rt:230:5
+-- src/lib.rt:231:5
 loop-less : tie.Need-loop-less Inv-loop μ-loop
 loop-less c = omega arith
 
--- src/lib.rt:230:5
+-- src/lib.rt:231:5
 loop-again : tie.Need-loop-again Inv-loop μ-loop
 loop-again c =
     let loop = c .before .before .before .before .loop in
@@ -60,7 +60,7 @@ loop-again c =
     let other = sym (leads-back .ensures) ∙ if2 .left in
     (omega arith, below-more _ _ (loop .inv .1) (λ back. true≢false (sym back ∙ other)))
 
--- src/lib.rt:224:1
+-- src/lib.rt:225:1
 returns-2 : tie.Need-returns-2 Inv-loop μ-loop
 unfolding workflow
 returns-2 c =

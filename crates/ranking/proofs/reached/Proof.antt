@@ -6,15 +6,15 @@ use Rattle.ranking.proofs.reached.Tie as tie
 use Rattle.ranking.proofs.reached.Reads as reads
 use Rattle.ranking.proofs.reached.Lts as lts
 
--- src/lib.rt:163:22
+-- src/lib.rt:164:22
 element-copy-out-result : tie.Need-element-copy-out-result
 element-copy-out-result c = search needs
 
--- src/lib.rt:159:1
+-- src/lib.rt:160:1
 returns : tie.Need-returns
 returns c = rw (eq-eqb _ _ (c .if1 .taken))
 
--- src/lib.rt:159:1
+-- src/lib.rt:160:1
 returns-2 : tie.Need-returns-2
 returns-2 c = rw (ne-eqb _ _ (c .before .if1 .left))
 

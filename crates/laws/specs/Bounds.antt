@@ -1,0 +1,39 @@
+-- Bounds of what is computed for a request that passes reading, each from document 01's ranges: 1 to 64 tasks, 1 to 16 processors, 1 to 2,000 minutes,
+-- transfers of 0 to 1,000 minutes, prices of 0 to 100, a budget of 0 to 20,000,000.
+use Prim.Native.Nat.{ℕ, _+_, _*_}
+
+-- Minutes that a task adds to a plan's length: the wait for its data, and its own minutes.
+abbrev pub added-most : ℕ
+added-most = 1_000 + 2_000
+
+-- A finish, and so a plan's length: 64 tasks.
+abbrev pub finish-most : ℕ
+finish-most = 64 * added-most
+
+-- A ready minute: a transfer after a finish.
+abbrev pub ready-most : ℕ
+ready-most = finish-most + 1_000
+
+-- A finish that the choice is asked about: that of a task that is ready last, rounded up.
+abbrev pub asked-finish-most : ℕ
+asked-finish-most = 200_000
+
+-- A task's cost: 2,000 minutes at a price of 100.
+abbrev pub cost-most : ℕ
+cost-most = 2_000 * 100
+
+-- A plan's cost, a cheapest total, RCB: 64 tasks.
+abbrev pub total-most : ℕ
+total-most = 64 * cost-most
+
+-- RB, and what is left of the budget: the whole budget.
+abbrev pub budget-most : ℕ
+budget-most = 20_000_000
+
+-- What a task adds to the rank of those before it: its minutes on 16 processors, and 16 times a transfer.
+abbrev pub rank-added-most : ℕ
+rank-added-most = 16 * 2_000 + 16 * 1_000
+
+-- A rank: 64 tasks.
+abbrev pub rank-most : ℕ
+rank-most = 64 * rank-added-most

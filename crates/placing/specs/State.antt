@@ -1,0 +1,50 @@
+-- The arrays and numbers that the code keeps from turn to turn, at first and with one more row.
+use Prim.Native.Nat.{ℕ, _+_, _-_, max}
+use mathlib.Core.Bool.{Bool, true, false}
+use mathlib.Core.List.{List}
+use lib.ListN.{set, replicate}
+use Rattle.rules.specs.Rows.{Row}
+
+pub record State : Type 0 where
+  pub sits : List ℕ
+  pub starts : List ℕ
+  pub ends : List ℕ
+  pub costs : List ℕ
+  pub placed : List Bool
+  pub until : List ℕ
+  pub rb : ℕ
+  pub spent : ℕ
+  pub rcb : ℕ
+  pub length : ℕ
+
+-- No task has a row.
+abbrev pub without-rows : (rb rcb : ℕ) → State
+without-rows rb rcb =
+    record {
+      sits = replicate 64 0;
+      starts = replicate 64 0;
+      ends = replicate 64 0;
+      costs = replicate 64 0;
+      placed = replicate 64 false;
+      until = replicate 16 0;
+      rb = rb;
+      spent = 0;
+      rcb = rcb;
+      length = 0;
+    }
+
+-- Task i has a row more, and `rcb` is still to come.
+abbrev pub with-row : State → ℕ → Row → (rcb : ℕ) → State
+with-row state i row rcb =
+    record {
+      sits = set (state .sits) i (row .processor);
+      starts = set (state .starts) i (row .start);
+      ends = set (state .ends) i (row .finish);
+      costs = set (state .costs) i (row .cost);
+      placed = set (state .placed) i true;
+      until = set (state .until) (row .processor) (row .finish);
+      rb = state .rb - row .cost;
+      spent = state .spent + row .cost;
+      rcb = rcb;
+      length = max (state .length) (row .finish);
+    }
