@@ -122,7 +122,7 @@ pub fn plan_good(s: &[u8], v: View, lent: usize) -> Planning
     if ranked.all {
         return plan_ranked(s, v, &ranked.ranks);
     }
-    refused(8, ranking::lowest_in_cycle(s, v) as u64)
+    refused(8, cycles::lowest_in_cycle(s, v) as u64)
 }
 
 // The plan of a request with so many rows lent: checks 1 to 6, then 7, 8, 9, placing with 10, then 11.

@@ -11,7 +11,7 @@ use Rattle.planner.proofs.plan_good.Reads as reads
 use Rattle.planner.proofs.plan_good.Lts as lts
 use Rattle.planner.proofs.plan_ranked.Reads as plan-ranked-reads
 use Rattle.planner.proofs.refused.Reads as refused-reads
-use Rattle.ranking.proofs.lowest_in_cycle.Reads as lowest-in-cycle-reads
+use Rattle.cycles.proofs.lowest_in_cycle.Reads as lowest-in-cycle-reads
 use Rattle.ranking.proofs.rank_all.Reads as rank-all-reads
 
 -- src/lib.rt:119:9
