@@ -166,7 +166,7 @@ pub extern "C" fn zabgurin_plan(
 ) -> ZabgurinAnswer
     ensures { λ r. ⌜ PlanTold (now (request .entry)) (now (processors .entry)) (now (starts .entry)) (now (finishes .entry)) (now (costs .entry)) (now (processors .exit)) (now (starts .exit)) (now (finishes .exit)) (now (costs .exit)) r ⌝ }
 {
-    let answer = planner::plan_into(request, processors, starts, finishes, costs);
+    let answer = buffers::plan_into(request, processors, starts, finishes, costs);
     answer_told(answer)
 }
 
