@@ -7,7 +7,8 @@ ghost use Rattle.rules.specs.Labels.{label-lookup};
 ghost use Rattle.rules.specs.Text.{text};
 ghost use Rattle.text.specs.Printed.{after};
 ghost use Rattle.reader.specs.Meaning.{meant-deadline};
-ghost use Rattle.planner.specs.Planned.{meant-answer, four};
+ghost use Rattle.planner.specs.Planned.{meant-answer};
+ghost use Rattle.buffers.specs.Into.{four};
 ghost use Rattle.exports.specs.Told.{told-deadline, told, told-part, told-answer, PlanTold};
 use planner::Answer;
 use reader::Deadline;
@@ -166,7 +167,7 @@ pub extern "C" fn zabgurin_plan(
 ) -> ZabgurinAnswer
     ensures { λ r. ⌜ PlanTold (now (request .entry)) (four (now (processors .entry)) (now (starts .entry)) (now (finishes .entry)) (now (costs .entry))) (four (now (processors .exit)) (now (starts .exit)) (now (finishes .exit)) (now (costs .exit))) r ⌝ }
 {
-    let answer = planner::plan_into(request, processors, starts, finishes, costs);
+    let answer = buffers::plan_into(request, processors, starts, finishes, costs);
     answer_told(answer)
 }
 

@@ -1,5 +1,6 @@
 pub mod Tests
 pub mod Numbers
+pub mod Turned
 pub mod Fold
 pub mod Folds
 pub mod Any

@@ -1,5 +1,5 @@
 -- The larger, the lower and the one that a test takes, of multiplied numbers; and going through the numbers below a count.
-use Prim.Native.Nat.{ℕ, suc, _*_, _≤_, _<_, max, min}
+use Prim.Native.Nat.{ℕ, suc, _+_, _*_, _≤_, _<_, max, min}
 use mathlib.Core.Path.{_≡_, sym, ap, _∙_, subst⁻¹}
 use mathlib.Core.Bool.{Bool, cond}
 use mathlib.Core.Logic.{⊎-elim, _⊎_, inl, inr}
@@ -12,13 +12,17 @@ use Rattle.laws.specs.Tests.{cond-mapped}
 pub below-next {ℓ} : (P : ℕ → Type ℓ) (k : ℕ) → P k → ((i : ℕ) → i < k → P i) → (i : ℕ) → i < suc k → P i
 below-next P k here below i l = ⊎-elim (λ (e : i ≡ k). subst⁻¹ P e here) (below i) (eq-or-lt-of-le (le-of-suc-le-suc l))
 
--- One of two numbers is at most the other.
-pub at-most-either : (x y : ℕ) → (x ≤ y) ⊎ (y ≤ x)
-at-most-either x y = go (decLe x y)
+-- One number is at most the other, or above it.
+pub below-or-on : (x y : ℕ) → (x ≤ y) ⊎ (y + 1 ≤ x)
+below-or-on x y = go (decLe x y)
   where
-    go : Dec (x ≤ y) → (x ≤ y) ⊎ (y ≤ x)
+    go : Dec (x ≤ y) → (x ≤ y) ⊎ (y + 1 ≤ x)
     go (yes h) = inl h
     go (no h) = inr (omega arith)
+
+-- One of two numbers is at most the other.
+pub at-most-either : (x y : ℕ) → (x ≤ y) ⊎ (y ≤ x)
+at-most-either x y = ⊎-elim inl (λ (h : y + 1 ≤ x). inr (omega arith)) (below-or-on x y)
 
 module _ (x y : ℕ) where
   pub max-either : (max x y ≡ x) ⊎ (max x y ≡ y)

@@ -25,7 +25,7 @@ pub fn price(s: &[u8], v: View, processor: usize) -> u64
     requires { ⌜ processor < v .processors ⌝ }
     ensures { λ r. ⌜ (r ≡ workflow-of (now (s .entry)) v .price processor) × (r ≤ 100) ⌝ }
 {
-    records::field(s, v.prices_at + processor * 3, 2) as u64
+    fields::field(s, v.prices_at + processor * 3, 2) as u64
 }
 
 // The minutes of a task on a processor.
@@ -34,7 +34,7 @@ pub fn minutes(s: &[u8], v: View, task: usize, processor: usize) -> u64
     requires { ⌜ (task < v .tasks) × (processor < v .processors) ⌝ }
     ensures { λ r. ⌜ (r ≡ workflow-of (now (s .entry)) v .minutes task processor) × (1 ≤ r) × (r ≤ 2_000) ⌝ }
 {
-    records::two_bytes(s, task_place(v, task) + (10 + processor * 5), 3)
+    fields::two_bytes(s, task_place(v, task) + (10 + processor * 5), 3)
 }
 
 // Where the record of an edge begins.
@@ -52,7 +52,7 @@ pub fn from(s: &[u8], v: View, edge: usize) -> usize
     requires { ⌜ edge < v .edges ⌝ }
     ensures { λ r. ⌜ (r ≡ workflow-of (now (s .entry)) v .from edge) × (r < v .tasks) ⌝ }
 {
-    records::field(s, edge_place(s, v, edge), 1)
+    fields::field(s, edge_place(s, v, edge), 1)
 }
 
 // The task that an edge leads to.
@@ -61,7 +61,7 @@ pub fn to(s: &[u8], v: View, edge: usize) -> usize
     requires { ⌜ edge < v .edges ⌝ }
     ensures { λ r. ⌜ (r ≡ workflow-of (now (s .entry)) v .to edge) × (r < v .tasks) ⌝ }
 {
-    records::field(s, edge_place(s, v, edge), 2)
+    fields::field(s, edge_place(s, v, edge), 2)
 }
 
 // The transfer minutes of an edge.
@@ -70,7 +70,7 @@ pub fn transfer(s: &[u8], v: View, edge: usize) -> u64
     requires { ⌜ edge < v .edges ⌝ }
     ensures { λ r. ⌜ (r ≡ workflow-of (now (s .entry)) v .transfer edge) × (r ≤ 1_000) ⌝ }
 {
-    records::two_bytes(s, edge_place(s, v, edge), 3)
+    fields::two_bytes(s, edge_place(s, v, edge), 3)
 }
 
 // A part of the request's bytes.

@@ -2,6 +2,4 @@ pub mod Planned
 pub mod Checks
 pub mod Plans
 pub mod Reach
-pub mod Stored
-pub mod Rows
 pub mod Settled

@@ -1,4 +1,4 @@
--- What the planner's answers and arrays mean, and what the lent buffers hold after the call.
+-- What the planner's answers and arrays mean.
 use Prim.Native.Nat.{ℕ}
 use mathlib.Core.Path.{_≡_}
 use mathlib.Core.List.{List, []}
@@ -9,7 +9,6 @@ use Rattle.rules.specs.Rows.{Placed}
 use Rattle.rules.specs.Method.{HBCS}
 use Rattle.rules.specs.Placing.{place}
 use Rattle.rules.specs.Answer as rules
-use Rattle.rules.specs.Buffers.{Buffers, rows-lent, buffers-after}
 use Rattle.placing.specs.Placed.{Columns}
 use Rattle.planner.specs.declared.Answer.{Answer}
 use Rattle.planner.specs.declared.Answer.the-variants as answer
@@ -38,12 +37,3 @@ outcome-within W =
 unfoldable pub rows-told : Answer → ℕ
 rows-told (answer.Planned n length cost left) = n
 rows-told (answer.Refused number place) = 0
-
--- The four slices that a caller lends, as the rules' buffers.
-abbrev pub four : (processors starts finishes costs : List ℕ) → Buffers
-four processors starts finishes costs = record { processors = processors; starts = starts; finishes = finishes; costs = costs }
-
--- The answer and the four buffers after the call are the rules'.
-pub record PlannedInto (s : List ℕ) (lent after : Buffers) (r : Answer) : Type 0 where
-  pub answer-is : meant-answer r ≡ rules.answer s (rows-lent lent)
-  pub after-is : after ≡ buffers-after s lent

@@ -1,15 +1,11 @@
--- Two answers of the planner that a contract allows are one answer, and so are two exits of each buffer: the contracts settle the answer, every row and
--- what stands after the rows.
-use Prim.Native.Nat.{ℕ}
+-- Two plans that a contract allows are one plan: the contracts settle the answer, and every number of the four arrays.
 use mathlib.Core.Path.{_≡_, refl, sym, ap, _∙_}
-use mathlib.Core.List.{List}
 use Rattle.rules.specs.Answer as rules
-use Rattle.rules.specs.Buffers.{Buffers}
 use Rattle.placing.specs.Settled.{column-settled}
 use Rattle.planner.specs.declared.Answer.{Answer}
 use Rattle.planner.specs.declared.Answer.the-variants.{Planned, Refused}
 use Rattle.planner.specs.declared.Planning.{Planning}
-use Rattle.planner.specs.Planned.{meant-answer, PlanOf, PlannedInto}
+use Rattle.planner.specs.Planned.{meant-answer, PlanOf}
 
 -- The answer that means this.
 answer-for : rules.Answer → Answer
@@ -32,8 +28,3 @@ plan-settled o a b one other =
     let finishes = column-settled (one .columns .finishes-hold) (other .columns .finishes-hold) in
     let costs = column-settled (one .columns .costs-hold) (other .columns .costs-hold) in
     λ t. record { answer = answers t; processors = processors t; starts = starts t; finishes = finishes t; costs = costs t }
-
-pub planned-into-settled :
-    (s : List ℕ) (lent a b : Buffers) (r t : Answer) → PlannedInto s lent a r → PlannedInto s lent b t → (a ≡ b) × (r ≡ t)
-planned-into-settled s lent a b r t one other =
-    (one .after-is ∙ sym (other .after-is), answer-settled r t (one .answer-is ∙ sym (other .answer-is)))

@@ -8,10 +8,11 @@ use lib.ListN.{length, getD, set, length-set}
 use borrow.Author.Tests.{eq-eqb, ne-eqb}
 use native.Mathlib.Omega.{arith}
 use native.Mathlib.Nat.{add-zero}
-use native.Mathlib.Decide.{decLe, ℕ-discrete}
-use mathlib.Core.Logic.{_⊎_, inl, inr, ⊎-elim}
+use native.Mathlib.Decide.{ℕ-discrete}
+use mathlib.Core.Logic.{⊎-elim}
 use Rattle.rules.specs.Workflow.{Workflow}
 use Rattle.good.specs.Ranges.{InRange}
+use Rattle.laws.specs.Numbers.{below-or-on}
 use Rattle.laws.specs.Stores.{stored}
 
 pub record Begins (W : Workflow) (task at : ℕ) : Type 0 where
@@ -33,13 +34,6 @@ begins-from W task at begins size room here later =
     go : (t : ℕ) → task ≤ t → t ≤ W .tasks → Dec (task ≡ t) → Begins W t (cond (eqb task t) at (getD begins t 0))
     go t l below (yes e) = rw (eq-eqb task t e, ← e) here
     go t l below (no n) = rw (ne-eqb task t n) (later t (omega arith) below)
-
-pub below-or-on : (e at : ℕ) → (e ≤ at) ⊎ (at + 1 ≤ e)
-below-or-on e at = go (decLe e at)
-  where
-    go : Dec (e ≤ at) → (e ≤ at) ⊎ (at + 1 ≤ e)
-    go (yes h) = inl h
-    go (no h) = inr (omega arith)
 
 module _ (W : Workflow) (range : InRange W) where
   from-rises-by : (d e : ℕ) → e + d < W .edges → W .from e ≤ W .from (e + d)

@@ -1,4 +1,3 @@
-pub mod Turned
 pub mod Begins
 pub mod Ranked
 pub mod RankBounds
@@ -6,5 +5,3 @@ pub mod RankedMore
 pub mod RankedLaws
 pub mod Settled
 pub mod Passed
-pub mod Marked
-pub mod MarkedLaws

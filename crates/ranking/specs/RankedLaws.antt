@@ -20,7 +20,7 @@ use Rattle.laws.specs.Cycles.{cyclic-iff}
 use Rattle.laws.specs.Onward.{some-leads-back, falling-none-back}
 use Rattle.laws.specs.Ranks.{R-unique}
 use Rattle.laws.specs.Stores.{repeated, at}
-use Rattle.ranking.specs.Begins.{below-or-on}
+use Rattle.laws.specs.Numbers.{below-or-on}
 use Rattle.ranking.specs.Ranked.{has-rank, RankedSoFar, Unknown, HeldUp, AllHeldUp, RankedAs}
 use Rattle.ranking.specs.RankBounds.{rank-falls}
 

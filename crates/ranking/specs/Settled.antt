@@ -7,7 +7,7 @@ use native.Mathlib.Omega.{arith}
 use lib.Seq.{ext-getD}
 use Rattle.rules.specs.Workflow.{Workflow}
 use Rattle.ranking.specs.declared.Ranked.{Ranked}
-use Rattle.ranking.specs.Begins.{below-or-on}
+use Rattle.laws.specs.Numbers.{below-or-on}
 use Rattle.laws.specs.Stores.{at}
 use Rattle.ranking.specs.Ranked.{RankedAs}
 

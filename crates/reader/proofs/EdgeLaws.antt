@@ -9,7 +9,7 @@ use Rattle.rules.specs.Fields.{Z, kind-byte, byte, E-from, E-to}
 use Rattle.rules.specs.Records.{Record, Read, read, stopped, Edges, edge, edge-at, end-at}
 use Rattle.rules.specs.Reading.{then, edges-part}
 use Rattle.good.specs.Edges.{up-to}
-use Rattle.records.specs.Meaning.{edge-or-end-at}
+use Rattle.edges.specs.Meaning.{edge-or-end-at}
 use Rattle.reader.proofs.Found.{tag, edge-found, end-found}
 
 module _ (s : List ℕ) (n at : ℕ) (before : Edges) (k : ℕ) where

@@ -3,8 +3,8 @@ ghost use mathlib.Core.Path.{_≡_};
 ghost use Rattle.rules.specs.Records.{minutes-at};
 ghost use Rattle.rules.specs.Reading.{each, deadline-part, prices-part, task-part, tasks-part, edges-part, read-request};
 ghost use Rattle.reader.specs.Meaning.{meant-part, meant-deadline, meant-reading, past, refusal-of};
+use edges::Edges;
 use records::Cursor;
-use records::Edges;
 use records::Record;
 use records::RecordAnswer;
 
@@ -143,7 +143,7 @@ fn read_edges(s: &[u8], c: Cursor, n: usize) -> EdgesPart
     };
     let mut left: usize = 513;
     while 0 < left {
-        let answer = records::read_edge_or_end(s, next, n, before);
+        let answer = edges::read_edge_or_end(s, next, n, before);
         let RecordAnswer::Read(after, found) = answer else {
             return EdgesPart {
                 passed: handed_up(answer),

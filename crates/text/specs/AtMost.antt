@@ -26,7 +26,7 @@ use Rattle.demands.specs.Demand1.ReadsSettled.{comes-inside}
 use Rattle.demands.specs.Demand1.Reading.{reading-stops, stopped-with-1-to-6}
 use Rattle.demands.specs.Demand2.WhatIsDue as due
 use Rattle.demands.specs.Demand2.WhatIsDue.{MethodsPlan, TooDear, Due, seven, eight, nine, eleven, requests-get-their-due}
-use Rattle.text.specs.Wrote.{Room}
+use Rattle.decimals.specs.Wrote.{Room}
 use Rattle.text.specs.PlanBounds.{row-bounds, length-at-most, cost-at-most-in-all}
 use Rattle.text.specs.LineBounds.{plan-line-at-most, refusal-line-at-most, row-line-at-most, lines-at-most}
 

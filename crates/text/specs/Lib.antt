@@ -1,7 +1,4 @@
 pub mod Printed
-pub mod Wrote
-pub mod Decimals
-pub mod Lines
 pub mod TextParts
 pub mod PlanBounds
 pub mod LineBounds

@@ -9,8 +9,9 @@ use Rattle.rules.specs.Rows.{Row}
 use Rattle.rules.specs.Answer.{planned, refused}
 use Rattle.rules.specs.Text.{bytes, decimal, line, first-line, row-line, lines}
 use Rattle.laws.specs.Bounds.{finish-most, total-most, budget-most}
-use Rattle.text.specs.Decimals.{decimal-length}
-use Rattle.text.specs.Lines.{four-numbers, four-fields, refusal-line}
+use Rattle.decimals.specs.Decimals.{decimal-length}
+use Rattle.decimals.specs.Fields.{four-numbers, four-fields}
+use Rattle.lines.specs.Lines.{refusal-line}
 use Rattle.text.specs.PlanBounds.{RowBounds}
 
 -- The digits of four numbers, and a byte after each.

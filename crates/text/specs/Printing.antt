@@ -9,7 +9,7 @@ use lib.Dec.{leb}
 use borrow.Author.Tests.{le-leb, lt-leb, leb-true}
 use Rattle.rules.specs.Text.{text}
 use Rattle.text.specs.declared.Printed.the-variants.{Whole, TooSmall}
-use Rattle.text.specs.Wrote.{Room, Wrote, wrote-from-start}
+use Rattle.decimals.specs.Wrote.{Room, Wrote, wrote-from-start}
 use Rattle.text.specs.Printed.{printed, after, PrintedAs}
 
 module _ (s out : List ℕ) where

@@ -9,17 +9,13 @@ use Rattle.rules.specs.Rows.{Placed, row-of}
 use Rattle.rules.specs.Answer.{Outcome, plan, refusal, answer-of, answer, outcome, refused}
 use Rattle.rules.specs.Text.{first-line, row-line, lines, row-lines, text}
 use Rattle.demands.specs.Ground.GoodRequest.{outcome-of-stopped}
-use Rattle.laws.specs.Stores.{at}
 use Rattle.placing.specs.Placed.{Columns}
 use Rattle.planner.specs.declared.Planning.{Planning}
 use Rattle.planner.specs.Planned.{meant-answer, rows-in, rows-told, PlanOf}
 use Rattle.planner.specs.Reach.{rows-due, told-due}
+use Rattle.lines.specs.Lines.{column-line}
 
-unfoldable pub column-line : (s processors starts finishes costs : List ℕ) → ℕ → List ℕ
-column-line s processors starts finishes costs i =
-    row-line (label s i) (record { processor = at processors i; start = at starts i; finish = at finishes i; cost = at costs i })
-
--- The same, of what the planner gives.
+-- The line of a task, of what the planner gives.
 abbrev pub planning-line : List ℕ → Planning → ℕ → List ℕ
 planning-line s p = column-line s (p .processors) (p .starts) (p .finishes) (p .costs)
 

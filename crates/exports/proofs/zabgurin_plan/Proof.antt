@@ -7,7 +7,7 @@ use Rattle.exports.proofs.zabgurin_plan.Tie as tie
 use Rattle.exports.proofs.zabgurin_plan.Reads as reads
 use Rattle.exports.proofs.zabgurin_plan.Lts as lts
 use Rattle.exports.proofs.answer_told.Reads as answer-told-reads
-use Rattle.planner.proofs.plan_into.Reads as plan-into-reads
+use Rattle.buffers.proofs.plan_into.Reads as plan-into-reads
 
 -- src/lib.rt:165:9
 plan-into-requires : tie.Need-plan-into-requires

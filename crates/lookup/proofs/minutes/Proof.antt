@@ -15,7 +15,7 @@ use Rattle.lookup.proofs.minutes.Tie as tie
 use Rattle.lookup.proofs.minutes.Reads as reads
 use Rattle.lookup.proofs.minutes.Lts as lts
 use Rattle.lookup.proofs.task_place.Reads as task-place-reads
-use Rattle.records.proofs.two_bytes.Reads as two-bytes-reads
+use Rattle.fields.proofs.two_bytes.Reads as two-bytes-reads
 
 -- src/lib.rt:37:27
 task-place-requires : tie.Need-task-place-requires

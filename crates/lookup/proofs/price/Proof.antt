@@ -13,7 +13,7 @@ use Rattle.lookup.proofs.price.Statement.{statement}
 use Rattle.lookup.proofs.price.Tie as tie
 use Rattle.lookup.proofs.price.Reads as reads
 use Rattle.lookup.proofs.price.Lts as lts
-use Rattle.records.proofs.field.Reads as field-reads
+use Rattle.fields.proofs.field.Reads as field-reads
 
 -- The record lies inside the request.
 inside : (c : tie.Start) → let a = c .args in price-place (meant-view (a .v)) (a .processor) + size P ≤ length (a .s .now)

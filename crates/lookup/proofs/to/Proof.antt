@@ -12,7 +12,7 @@ use Rattle.lookup.proofs.to.Tie as tie
 use Rattle.lookup.proofs.to.Reads as reads
 use Rattle.lookup.proofs.to.Lts as lts
 use Rattle.lookup.proofs.edge_place.Reads as edge-place-reads
-use Rattle.records.proofs.field.Reads as field-reads
+use Rattle.fields.proofs.field.Reads as field-reads
 
 -- src/lib.rt:64:23
 edge-place-requires : tie.Need-edge-place-requires

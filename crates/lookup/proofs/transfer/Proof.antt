@@ -12,7 +12,7 @@ use Rattle.lookup.proofs.transfer.Tie as tie
 use Rattle.lookup.proofs.transfer.Reads as reads
 use Rattle.lookup.proofs.transfer.Lts as lts
 use Rattle.lookup.proofs.edge_place.Reads as edge-place-reads
-use Rattle.records.proofs.two_bytes.Reads as two-bytes-reads
+use Rattle.fields.proofs.two_bytes.Reads as two-bytes-reads
 
 -- src/lib.rt:73:27
 edge-place-requires : tie.Need-edge-place-requires

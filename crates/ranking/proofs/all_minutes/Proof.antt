@@ -21,16 +21,16 @@ Inv-loop s v task minutes₀ j₀ minutes j =
 abbrev μ-loop : tie.MeasureT-loop
 μ-loop s v task minutes₀ j₀ minutes j = v .processors - j
 
--- src/lib.rt:32:5
+-- src/lib.rt:27:5
 loop-holds : tie.Need-loop-holds Inv-loop μ-loop
 unfolding sum
 loop-holds c = (omega arith, refl, omega arith)
 
--- src/lib.rt:33:29
+-- src/lib.rt:28:29
 minutes-requires : tie.Need-minutes-requires Inv-loop μ-loop
 minutes-requires c κs = search needs
 
--- src/lib.rt:33:19
+-- src/lib.rt:28:19
 add-minutes : tie.Need-add-minutes Inv-loop μ-loop
 unfolding workflow
 add-minutes c =
@@ -39,15 +39,15 @@ add-minutes c =
     let minutes = c .minutes in
     omega (arith, minutes .ensures, view-in-range (a .s .now) (a .v) (pre .0) .processors-in)
 
--- src/lib.rt:34:9
+-- src/lib.rt:29:9
 add-j : tie.Need-add-j Inv-loop μ-loop
 add-j c = omega arith
 
--- src/lib.rt:32:5
+-- src/lib.rt:27:5
 loop-less : tie.Need-loop-less Inv-loop μ-loop
 loop-less c = omega arith
 
--- src/lib.rt:32:5
+-- src/lib.rt:27:5
 loop-again : tie.Need-loop-again Inv-loop μ-loop
 loop-again c =
     let a = c .before .before .before .before .before .args in
@@ -61,7 +61,7 @@ loop-again c =
       omega arith,
     )
 
--- src/lib.rt:25:1
+-- src/lib.rt:20:1
 returns : tie.Need-returns Inv-loop μ-loop
 unfolding workflow
 returns c =

@@ -19,7 +19,7 @@ Inv-loop s v task end begin₀ begin =
 abbrev μ-loop : tie.MeasureT-loop
 μ-loop s v task end begin₀ begin = begin
 
--- src/lib.rt:46:5
+-- src/lib.rt:41:5
 loop-holds : tie.Need-loop-holds Inv-loop μ-loop
 unfolding workflow
 loop-holds c =
@@ -27,15 +27,15 @@ loop-holds c =
     let last = pre .1 in
     (last .within, λ e l below. omega (arith, last .onward e l below))
 
--- src/lib.rt:47:22
+-- src/lib.rt:42:22
 sub-before : tie.Need-sub-before Inv-loop μ-loop
 sub-before c = omega arith
 
--- src/lib.rt:48:12
+-- src/lib.rt:43:12
 from-requires : tie.Need-from-requires Inv-loop μ-loop
 from-requires c κs = (c .before .before .before .pre .0, omega arith)
 
--- src/lib.rt:49:13
+-- src/lib.rt:44:13
 returns : tie.Need-returns Inv-loop μ-loop
 unfolding workflow
 returns c =
@@ -51,11 +51,11 @@ returns c =
     let earlier : W .from (begin - 1) < a .task = omega (arith, from .ensures .0, if1 .taken) in
     begins-after W range (a .task) (begin - 1) begin (omega arith) (inv .0) earlier (inv .1)
 
--- src/lib.rt:46:5
+-- src/lib.rt:41:5
 loop-less : tie.Need-loop-less Inv-loop μ-loop
 loop-less c = omega arith
 
--- src/lib.rt:46:5
+-- src/lib.rt:41:5
 loop-again : tie.Need-loop-again Inv-loop μ-loop
 unfolding workflow
 loop-again c =
@@ -73,7 +73,7 @@ loop-again c =
       onward-from W range (a .task) (begin - 1) begin (omega arith) not-earlier (inv .1),
     )
 
--- src/lib.rt:40:1
+-- src/lib.rt:35:1
 returns-2 : tie.Need-returns-2 Inv-loop μ-loop
 unfolding workflow
 returns-2 c =

@@ -3,7 +3,7 @@ use mathlib.Core.Path.{_≡_}
 use Rattle.rules.specs.Workflow.{workflow}
 use Rattle.lookup.specs.Lookup.{workflow-of}
 use Rattle.lookup.specs.Views.{view-in-range}
-use Rattle.ranking.specs.Turned.{turned-still, turned-less}
+use Rattle.laws.specs.Turned.{turned-still, turned-less}
 use Rattle.ranking.specs.Ranked.{RankedSoFar}
 use Rattle.ranking.specs.RankedLaws.{ranked-none, ranked-all, ranked-not-all}
 use native.Mathlib.Omega.{arith}
@@ -20,23 +20,23 @@ Inv-loop s v begins ranks₀ left₀ ranks left = RankedSoFar (workflow-of s v) 
 abbrev μ-loop : tie.MeasureT-loop
 μ-loop s v begins ranks₀ left₀ ranks left = left
 
--- src/lib.rt:143:18
+-- src/lib.rt:138:18
 begins-all-requires : tie.Need-begins-all-requires Inv-loop μ-loop
 begins-all-requires c κs = c .before .pre
 
--- src/lib.rt:146:5
+-- src/lib.rt:141:5
 loop-holds : tie.Need-loop-holds Inv-loop μ-loop
 unfolding workflow
 loop-holds c =
     let a = c .before .before .args in
     ranked-none (workflow-of (a .s .now) (a .v)) (view-in-range (a .s .now) (a .v) (c .before .before .pre))
 
--- src/lib.rt:148:9
+-- src/lib.rt:143:9
 rank-pass-requires : tie.Need-rank-pass-requires Inv-loop μ-loop
 rank-pass-requires c κs =
     (c .before .before .before .before .before .before .pre, (c .before .before .before .before .begins-all .ensures, c .before .before .before .loop .inv))
 
--- src/lib.rt:150:13
+-- src/lib.rt:145:13
 returns : tie.Need-returns Inv-loop μ-loop
 returns c =
     let start = c .before .before .before .before .before .before .before .before in
@@ -48,15 +48,15 @@ returns c =
     (omega (arith, if1 .taken, loop-test .taken))
     (turned-still turned (if1 .taken))
 
--- src/lib.rt:146:5
+-- src/lib.rt:141:5
 loop-less : tie.Need-loop-less Inv-loop μ-loop
 loop-less c = turned-less (c .before .rank-pass .ensures) (c .if1 .left)
 
--- src/lib.rt:146:5
+-- src/lib.rt:141:5
 loop-again : tie.Need-loop-again Inv-loop μ-loop
 loop-again c = c .before .rank-pass .ensures .kept
 
--- src/lib.rt:139:1
+-- src/lib.rt:134:1
 returns-2 : tie.Need-returns-2 Inv-loop μ-loop
 returns-2 c =
     let start = c .before .before .before .before in

@@ -24,7 +24,7 @@ Inv-loop s v ranks task begin end processors most₀ e₀ most e = Passed (workf
 abbrev μ-loop : tie.MeasureT-loop
 μ-loop s v ranks task begin end processors most₀ e₀ most e = end - e
 
--- src/lib.rt:83:5
+-- src/lib.rt:78:5
 loop-holds : tie.Need-loop-holds Inv-loop μ-loop
 loop-holds c =
     let pre = c .before .pre in
@@ -33,12 +33,12 @@ loop-holds c =
     let range = view-in-range (a .s .now) (a .v) (pre .0) in
     passed-none W range (a .ranks .now) (a .task) (a .begin) (a .end) (pre .1 .1 .0) (pre .1 .1 .1)
 
--- src/lib.rt:84:28
+-- src/lib.rt:79:28
 to-requires : tie.Need-to-requires Inv-loop μ-loop
 unfolding workflow
 to-requires c κs = (c .before .before .before .pre .0, omega (arith, c .before .before .before .pre .1 .1 .1 .within))
 
--- src/lib.rt:84:22
+-- src/lib.rt:79:22
 mul-onward : tie.Need-mul-onward Inv-loop μ-loop
 unfolding workflow
 mul-onward c =
@@ -47,7 +47,7 @@ mul-onward c =
     let to = c .to in
     omega (arith, to .ensures .1, view-in-range (a .s .now) (a .v) (pre .0) .tasks-in)
 
--- src/lib.rt:84:22
+-- src/lib.rt:79:22
 element-copy-out-onward : tie.Need-element-copy-out-onward Inv-loop μ-loop
 unfolding workflow
 element-copy-out-onward c =
@@ -56,7 +56,7 @@ element-copy-out-onward c =
     let to = c .to in
     omega (arith, to .ensures .1, view-in-range (a .s .now) (a .v) (pre .0) .tasks-in)
 
--- src/lib.rt:86:13
+-- src/lib.rt:81:13
 returns : tie.Need-returns Inv-loop μ-loop
 returns c =
     let pre = c .before .before .before .before .before .before .pre in
@@ -71,14 +71,14 @@ returns c =
     held-up-here W range (a .ranks .now) (a .task) (a .begin) (a .end) (pre .1 .1 .0) (pre .1 .1 .1) (loop .e) (loop-test .taken)
     (loop .inv .from-begin) unknown
 
--- src/lib.rt:88:51
+-- src/lib.rt:83:51
 transfer-requires : tie.Need-transfer-requires Inv-loop μ-loop
 unfolding workflow
 transfer-requires c κs =
     let pre = c .before .before .before .before .before .before .pre in
     (pre .0, omega (arith, pre .1 .1 .1 .within))
 
--- src/lib.rt:88:38
+-- src/lib.rt:83:38
 mul-larger : tie.Need-mul-larger Inv-loop μ-loop
 unfolding workflow
 mul-larger c =
@@ -88,7 +88,7 @@ mul-larger c =
     let range = view-in-range (a .s .now) (a .v) (pre .0) in
     omega (arith, mul-le-mul (range .processors-in .to-high) (transfer .ensures .1))
 
--- src/lib.rt:88:38
+-- src/lib.rt:83:38
 add-larger : tie.Need-add-larger Inv-loop μ-loop
 unfolding workflow
 add-larger c =
@@ -99,19 +99,19 @@ add-larger c =
     let range = view-in-range (a .s .now) (a .v) (pre .0) in
     omega (arith, mul-le-mul (range .processors-in .to-high) (transfer .ensures .1), pre .1 .0 .1 (to .result))
 
--- src/lib.rt:88:9
+-- src/lib.rt:83:9
 larger-requires : tie.Need-larger-requires Inv-loop μ-loop
 larger-requires c κs = search needs
 
--- src/lib.rt:89:9
+-- src/lib.rt:84:9
 add-e : tie.Need-add-e Inv-loop μ-loop
 add-e c = omega arith
 
--- src/lib.rt:83:5
+-- src/lib.rt:78:5
 loop-less : tie.Need-loop-less Inv-loop μ-loop
 loop-less c = omega arith
 
--- src/lib.rt:83:5
+-- src/lib.rt:78:5
 loop-again : tie.Need-loop-again Inv-loop μ-loop
 unfolding workflow
 loop-again c =
@@ -131,15 +131,15 @@ loop-again c =
     (ap (at (a .ranks .now)) (to .ensures .0)) (omega (arith, if1 .left))
     (pre .1 .0 .1 (to .result)) next
 
--- src/lib.rt:91:5
+-- src/lib.rt:86:5
 all-minutes-requires : tie.Need-all-minutes-requires Inv-loop μ-loop
 all-minutes-requires c κs = (c .before .before .before .pre .0, c .before .before .before .pre .1 .0 .0)
 
--- src/lib.rt:91:5
+-- src/lib.rt:86:5
 add-result : tie.Need-add-result Inv-loop μ-loop
 add-result c = omega (arith, c .before .before .loop .inv .at-most, c .all-minutes .ensures .1)
 
--- src/lib.rt:74:1
+-- src/lib.rt:69:1
 returns-2 : tie.Need-returns-2 Inv-loop μ-loop
 unfolding workflow
 returns-2 c =

@@ -4,7 +4,8 @@ use Prim.Native.Nat.{ℕ, _+_, _-_}
 use mathlib.Core.List.{List, [], _∷_}
 use types.Run.{OneOf, miss}
 use Rattle.rules.specs.Reading.{edges-part}
-use Rattle.records.specs.Meaning.{meant, meant-edges}
+use Rattle.records.specs.Meaning.{meant}
+use Rattle.edges.specs.Meaning.{meant-edges}
 use Rattle.records.specs.declared.RecordAnswer.the-variants as records
 use Rattle.reader.proofs.Found.{due-among}
 use Rattle.reader.proofs.EdgeLaws.{one-due, none-due, edges-refused, edges-ended, edges-more}
@@ -15,7 +16,7 @@ use Rattle.reader.proofs.read_edges.Tie as tie
 use Rattle.reader.proofs.read_edges.Reads as reads
 use Rattle.reader.proofs.read_edges.Lts as lts
 use Rattle.reader.proofs.handed_up.Reads as handed-up-reads
-use Rattle.records.proofs.read_edge_or_end.Reads as read-edge-or-end-reads
+use Rattle.edges.proofs.read_edge_or_end.Reads as read-edge-or-end-reads
 
 abbrev Inv-loop : tie.InvT-loop
 Inv-loop s n next₀ before₀ left₀ next before left =

@@ -1,0 +1,4 @@
+pub mod Into
+pub mod Stored
+pub mod Rows
+pub mod Settled

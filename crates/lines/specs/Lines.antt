@@ -1,0 +1,43 @@
+-- The lines of the text: a refusal's by its fields, a task's by four columns, and one line for each of the first numbers.
+use Prim.Native.Nat.{ℕ, zero, suc, _≤_, _<_}
+use mathlib.Core.Path.{_≡_}
+use mathlib.Core.List.{List, _++_, append-assoc}
+use mathlib.Core.Logic.{⊎-elim}
+use native.Mathlib.Nat.{eq-or-lt-of-le}
+use native.Mathlib.Omega.{arith}
+use lib.ListN.{length, length-append}
+use Rattle.rules.specs.Labels.{label}
+use Rattle.rules.specs.Text.{bytes, line, first-line, row-line, lines}
+use Rattle.rules.specs.Answer.{refused}
+use Rattle.laws.specs.Stores.{at}
+use Rattle.decimals.specs.Fields.{field}
+use Rattle.decimals.specs.Wrote.{Room, Wrote, room-next}
+
+-- The line of a task, its row read off four columns.
+unfoldable pub column-line : (s processors starts finishes costs : List ℕ) → ℕ → List ℕ
+column-line s processors starts finishes costs i =
+    row-line (label s i) (record { processor = at processors i; start = at starts i; finish = at finishes i; cost = at costs i })
+
+pub refusal-line : (number place : ℕ) → first-line (refused number place) ≡ bytes "no " ++ (field number 32 ++ field place 10)
+unfolding first-line line bytes
+refusal-line number place = simp append-assoc
+
+-- One line per number: the first i of them are no longer than the first n.
+module _ (line-of : ℕ → List ℕ) where
+  lines-longer : (i n : ℕ) → i ≤ n → length (lines i line-of) ≤ length (lines n line-of)
+  unfolding lines
+  lines-longer i zero l = let none : i ≡ 0 = omega arith in rw none (omega arith)
+  lines-longer i (suc n) l =
+      ⊎-elim (λ (e : i ≡ suc n). rw e (omega arith))
+      (λ (m : i < suc n). omega (arith, lines-longer i n (omega arith), length-append (lines n line-of) (line-of n)))
+      (eq-or-lt-of-le l)
+
+  module _ {out : List ℕ} {at : ℕ} (n : ℕ) (room : Room out at (lines n line-of)) (i : ℕ) where
+    -- Where there is room for n lines there is room for the first i,
+    pub room-lines : i ≤ n → Room out at (lines i line-of)
+    room-lines l = record { fits = omega (arith, room .fits, lines-longer i n l) }
+
+    -- and, once these are written, for the next.
+    pub room-line : {out′ : List ℕ} {end : ℕ} → i < n → Wrote out at (lines i line-of) out′ end → Room out′ end (line-of i)
+    unfolding lines
+    room-line l w = room-next (record { fits = omega (arith, room .fits, lines-longer (suc i) n l) }) w

@@ -1,0 +1,94 @@
+// The lines of the printed plan, written over a lent buffer: the first line, and those of the rows.
+ghost use Prim.Native.Nat.{_≤_};
+ghost use Rattle.rules.specs.Text.{first-line, row-line, lines};
+ghost use Rattle.reader.specs.Meaning.{ViewOf};
+ghost use Rattle.planner.specs.Planned.{meant-answer};
+ghost use Rattle.decimals.specs.Wrote.{Room, Wrote};
+ghost use Rattle.lines.specs.Lines.{column-line};
+use planner::Answer;
+use reader::View;
+
+// "`plan `, n, length, cost, budget left, [..]; or `no `, number, place"
+pub fn put_first_line(out: &mut [u8], answer: Answer) -> usize
+    requires { ⌜ Room (now out) 0 (first-line (meant-answer answer)) ⌝ }
+    ensures { λ r. ⌜ Wrote (now (out .entry)) 0 (first-line (meant-answer answer)) (now (out .exit)) r ⌝ }
+{
+    match answer {
+        Answer::Planned {
+            n,
+            length,
+            cost,
+            left,
+        } => {
+            let opened = decimals::put_bytes(out, 0, b"plan ");
+            decimals::put_four(out, opened, n, length, cost, left)
+        }
+        Answer::Refused { number, place } => {
+            let opened = decimals::put_bytes(out, 0, b"no ");
+            let numbered = decimals::put_field(out, opened, number, b' ');
+            decimals::put_field(out, numbered, place, b'\n')
+        }
+    }
+}
+
+// "label, processor, start, finish, cost"
+fn put_row(
+    out: &mut [u8],
+    at: usize,
+    name: &[u8],
+    processor: u64,
+    start: u64,
+    finish: u64,
+    cost: u64,
+) -> usize
+    requires { ⌜ Room (now out) at (row-line (now name) (record { processor = processor; start = start; finish = finish; cost = cost })) ⌝ }
+    ensures { λ r.
+        ⌜ Wrote (now (out .entry)) at
+        (row-line (now (name .entry)) (record { processor = processor; start = start; finish = finish; cost = cost })) (now (out .exit)) r ⌝ }
+{
+    let named = decimals::put_bytes(out, at, name);
+    let parted = decimals::put_byte(out, named, b' ');
+    decimals::put_four(out, parted, processor, start, finish, cost)
+}
+
+// "one line per task", of the first n tasks.
+pub fn put_rows<'a>(
+    out: &mut [u8],
+    at: usize,
+    s: &[u8],
+    v: View,
+    n: usize,
+    processors: &'a [u64; 64],
+    starts: &'a [u64; 64],
+    finishes: &'a [u64; 64],
+    costs: &'a [u64; 64],
+) -> usize
+    requires { ⌜ ViewOf (now s) v ⌝ }
+    requires { ⌜ n ≤ v .tasks ⌝ }
+    requires { ⌜ Room (now out) at (lines n (column-line (now s) (now processors) (now starts) (now finishes) (now costs))) ⌝ }
+    ensures { λ r.
+        ⌜ Wrote (now (out .entry)) at
+        (lines n
+        (column-line (now (s .entry)) (now (processors .entry)) (now (starts .entry)) (now (finishes .entry)) (now (costs .entry))))
+        (now (out .exit)) r ⌝ }
+{
+    let mut end = at;
+    let mut i = 0;
+    while i < n {
+        let part = lookup::label_of(s, v, i);
+        let begin = part.begin;
+        let length = part.length;
+        let past = begin + length;
+        end = put_row(
+            out,
+            end,
+            &s[begin..past],
+            processors[i],
+            starts[i],
+            finishes[i],
+            costs[i],
+        );
+        i += 1;
+    }
+    end
+}
