@@ -36,6 +36,6 @@ module _ (W : Workflow) (ready : ℕ → ℕ) (busy : ℕ → List Interval) (i 
   hand-by (take j) = hand.Row j (start-by j) (finish-by j) (cost W i j)
   hand-by nothing = hand.Nothing
 
-  -- What the method gives, for so much of RB and RCB.
+  -- What task i gets by a method: a row on the processor that it takes, or nothing.
   abbrev pub hand-of : Method → (RB RCB : ℕ) → Hand
   hand-of M RB RCB = hand-by (M (question-by RB RCB))

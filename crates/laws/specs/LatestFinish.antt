@@ -23,7 +23,8 @@ finish-in-length (p ∷ rows) i =
     cond-either (λ r. r .finish ≤ max (length-of rows) (p .row .finish)) (eqb (p .task) i) (p .row) (row-of rows i) (λ e. omega arith)
     (λ e. omega (arith, finish-in-length rows i))
 
-abbrev taken-up : Row → Interval
+-- The interval that a row takes up.
+abbrev pub taken-up : Row → Interval
 taken-up r = record { begin = r .start; end = r .finish }
 
 busy-in-length : (rows : List Placed) (j : ℕ) (v : Interval) → List·Memᴰ v (busy rows j) → v .end ≤ length-of rows

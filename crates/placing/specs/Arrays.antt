@@ -7,9 +7,10 @@ use native.Mathlib.Omega.{arith}
 use lib.Dec.{eqb}
 use lib.ListN.{set, length-set, replicate}
 use borrow.Author.Tests.{eqb-true}
-use Rattle.rules.specs.Start.{Interval, start-on}
+use Rattle.rules.specs.Start.{start-on}
 use Rattle.rules.specs.Rows.{Row, Placed, row-of, is-placed, busy}
 use Rattle.laws.specs.StartLaws.{SameStart, up-to, up-to-0-as-nothing, up-to-finish-as-all}
+use Rattle.laws.specs.LatestFinish.{taken-up}
 use Rattle.laws.specs.Tests.{cond-mapped}
 use Rattle.laws.specs.Stores.{stored, stored-holds, repeated, at}
 use Rattle.hand.specs.Busy.{kept-busy}
@@ -85,11 +86,8 @@ module _ (p : Placed) (rows : List Placed) where
               rw (stored until (p .row .processor) (p .row .finish) 0 j (omega (arith, held .size))) (go j (eqb (p .row .processor) j) refl);
         }
       where
-        here : Interval
-        here = record { begin = p .row .start; end = p .row .finish }
-
         go :
             (j : ℕ) (s : Bool) → eqb (p .row .processor) j ≡ s
-            → SameStart (up-to (cond s (p .row .finish) (at until j))) (cond s (here ∷ busy rows j) (busy rows j))
+            → SameStart (up-to (cond s (p .row .finish) (at until j))) (cond s (taken-up (p .row) ∷ busy rows j) (busy rows j))
         go j true e = rw (← eqb-true (p .row .processor) j e) (up-to-finish-as-all _ ready minutes start-is finish-is)
         go j false e = held .holds j

@@ -22,7 +22,7 @@ pub record Marks (rows : List Placed) (placed : List Bool) : Type 0 where
   pub size : length placed ≡ 64
   pub holds : (i : ℕ) → getD placed i false ≡ is-placed rows i
 
--- A task starts on each processor as by all that it is busy with.
+-- What is kept of each processor gives the same starts as what the rules say it is busy with.
 pub record Until (rows : List Placed) (until : List ℕ) : Type 0 where
   pub size : length until ≡ 16
   pub holds : (j : ℕ) → SameStart (kept-busy until j) (busy rows j)

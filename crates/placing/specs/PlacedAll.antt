@@ -1,5 +1,5 @@
 -- The two ways that placing ends: all tasks have a row, or one has no processor it may take.
-use Prim.Native.Nat.{ℕ}
+use Prim.Native.Nat.{ℕ, _-_}
 use mathlib.Core.Path.{_≡_, sym, ap, _∙_}
 use lib.ListN.{replicate}
 use Rattle.rules.specs.Workflow.{Workflow}
@@ -12,20 +12,20 @@ use Rattle.placing.specs.Kept.{Kept}
 use Rattle.placing.specs.Arrays.{columns-first}
 
 pub placed-all :
-    {W : Workflow} {k : ℕ} {state : State} → Kept HBCS W k state → k ≡ W .tasks
+    {W : Workflow} {k : ℕ} {state : State} {left : ℕ} → Kept HBCS W k state → k ≡ W .tasks → left ≡ W .budget - state .spent
     → PlacedAs W
     (record {
-      outcome = outcome.All (state .length) (state .spent) (state .rb);
+      outcome = outcome.All (state .length) (state .spent) left;
       processors = state .sits;
       starts = state .starts;
       finishes = state .ends;
       costs = state .costs;
     })
 unfolding told rows-placed
-placed-all {W} kept e =
+placed-all {W} kept e left-is =
     let all : place HBCS W (W .tasks) ≡ so-far (kept .rows) = ap (place HBCS W) (sym e) ∙ kept .placed-so-far in
     record {
-      outcome-is = rw all (λ t. outcome.All (kept .length-is t) (kept .spent-is t) (kept .rb-is t));
+      outcome-is = rw all (λ t. outcome.All (kept .length-is t) (kept .spent-is t) ((left-is ∙ ap (λ x. W .budget - x) (kept .spent-is)) t));
       columns = rw all (kept .columns);
     }
 

@@ -14,6 +14,7 @@ use Rattle.rules.specs.Rows.{Row, Placed, row-of, is-placed, busy}
 use Rattle.rules.specs.Method.{Method}
 use Rattle.rules.specs.Placing.{ready-for, start-of, finish-of, row-on}
 use Rattle.laws.specs.StartLaws.{start-overlaps-nothing}
+use Rattle.laws.specs.LatestFinish.{taken-up}
 use Rattle.demands.specs.Demand2.Lookup.{none-placed, each-row}
 use Rattle.demands.specs.Demand2.Built.{placed-on, Built, at-first, one-more}
 
@@ -27,10 +28,6 @@ pub record RowTrue (W : Workflow) (i : ℕ) (r : Row) : Type 0 where
 -- On one processor the one ends before the other begins.
 abbrev pub Apart : Row → Row → Type 0
 Apart r r′ = r .processor ≡ r′ .processor → (r .finish ≤ r′ .start) ⊎ (r′ .finish ≤ r .start)
-
--- The interval that a row takes up.
-abbrev taken-up : Row → Interval
-taken-up r = record { begin = r .start; end = r .finish }
 
 new-busy : (p : Placed) (before : List Placed) → List·Memᴰ (taken-up (p .row)) (busy (p ∷ before) (p .row .processor))
 unfolding busy

@@ -283,10 +283,14 @@ loop-again c =
     let turned = turned (c .before .before) .1 in
     (omega (arith, left (turn-of (c .before .before))), rw (c .larger .ensures, c .before .less .ensures) turned)
 
+-- src/lib.rt:110:19
+less-requires-2 : tie.Need-less-requires-2 Inv-loop μ-loop
+less-requires-2 c κs = search needs
+
 -- src/lib.rt:56:1
 returns-2 : tie.Need-returns-2 Inv-loop μ-loop
 unfolding workflow
-returns-2 c = placed-all (c .before .before .loop .inv .1) (omega arith)
+returns-2 c = placed-all (c .before .before .before .loop .inv .1) (omega arith) (c .less2 .ensures)
 
 pub place-spec : {M : Type 1} → statement M
 place-spec =
@@ -322,4 +326,5 @@ place-spec =
     add-k
     loop-less
     loop-again
+    less-requires-2
     returns-2)
