@@ -1,3 +1,2 @@
 pub mod Locals
-pub mod Columns
 pub mod Calls

@@ -1,6 +1,6 @@
 // The plan of a request, its rows in a lent slice of row structs.
 ghost use mathlib.Core.Path.{_≡_};
-ghost use Prim.Native.Nat.{_≤_};
+ghost use Prim.Native.Nat.{_<_, _≤_};
 ghost use lib.ListN.{length};
 ghost use Rattle.laws.specs.Overwritten.{overwritten};
 ghost use Rattle.planner.specs.Planned.{rows-told};
@@ -32,6 +32,19 @@ fn answer_of(p: Planning) -> Answer
     answer
 }
 
+// Row i: the numbers at i in the four arrays.
+fn row_of(p: Planning, i: usize) -> Row
+    requires { ⌜ i < 64 ⌝ }
+    ensures { λ r. ⌜ r ≡ row-at p i ⌝ }
+{
+    Row {
+        processor: p.processors[i],
+        start: p.starts[i],
+        finish: p.finishes[i],
+        cost: p.costs[i],
+    }
+}
+
 // Stores the first n rows; the later ones keep their content.
 fn store(rows: &mut [Row], n: usize, p: Planning)
     requires { ⌜ (n ≤ length (now rows)) × (n ≤ 64) ⌝ }
@@ -39,12 +52,7 @@ fn store(rows: &mut [Row], n: usize, p: Planning)
 {
     let mut i = 0;
     while i < n {
-        rows[i] = Row {
-            processor: p.processors[i],
-            start: p.starts[i],
-            finish: p.finishes[i],
-            cost: p.costs[i],
-        };
+        rows[i] = row_of(p, i);
         i += 1;
     }
 }
