@@ -1,3 +1,3 @@
 pub mod Locals
-pub mod Columns
 pub mod Calls
+pub mod Arrays

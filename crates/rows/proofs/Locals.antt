@@ -37,7 +37,7 @@ module _ {M : Type 1} (𝓤 : URA M) (H : Heap 𝓤) where
   env (x ∷ xs) l = (tyOf 𝓤 H x, l zero) ∷ env xs (λ k. l (suc k))
 
   -- Local k of E.
-  abbrev pub local : Env 𝓤 H → ℕ → Cell → Item 𝓤
+  abbrev local : Env 𝓤 H → ℕ → Cell → Item 𝓤
   local E k = cell (spotOf 𝓤 H E k .0, spotOf 𝓤 H E k .1)
 
   -- The locals with what they hold, the last one first, each before the entry that says that it dies; then Γ. A local that is not told of is empty.
@@ -96,13 +96,13 @@ module _ {M : Type 1} (𝓤 : URA M) (H : Heap 𝓤) where
 
 -- What is told of the locals in a context where local 0 is entry z.
 module _ {M : Type 1} (𝓤 : URA M) (H : Heap 𝓤) (A : Atoms 𝓤) (E : Env 𝓤 H) (z : ℕ) where
-  abbrev pub Told : List (Item 𝓤) → ℕ → Cell → Type 2
+  abbrev Told : List (Item 𝓤) → ℕ → Cell → Type 2
   Told Γ k c = nth 𝓤 H A (z - 2 * k) Γ ≡ local 𝓤 H E k c
 
-  abbrev pub filled : List (Item 𝓤) → ℕ → Val → List (Item 𝓤)
+  abbrev filled : List (Item 𝓤) → ℕ → Val → List (Item 𝓤)
   filled Γ k v = put 𝓤 H A (z - 2 * k) (local 𝓤 H E k (holds v)) Γ
 
-  abbrev pub Fits : ℕ → Val → Type 0
+  abbrev Fits : ℕ → Val → Type 0
   Fits k v = T (hasTy (spotOf 𝓤 H E k .0) v) × WT v
 
 -- One more place in front.

@@ -2,7 +2,7 @@
 use Prim.Native.Nat.{ℕ}
 use mathlib.Core.Path.{_≡_}
 use mathlib.Core.List.{List, map}
-use lib.ListN.{length}
+use lib.ListN.{length, replicate}
 use Rattle.rules.specs.Rows as rules
 use Rattle.rules.specs.Answer.{answer, rows-after}
 use Rattle.laws.specs.Stores.{at}
@@ -10,6 +10,7 @@ use Rattle.planner.specs.declared.Answer.{Answer}
 use Rattle.planner.specs.declared.Planning.{Planning}
 use Rattle.planner.specs.Planned.{meant-answer}
 use Rattle.rows.specs.declared.Row.{Row}
+use Rattle.rows.specs.declared.WholePlan.{WholePlan}
 
 -- What the code's row means: document 01's, field by field.
 abbrev pub meant-row : Row → rules.Row
@@ -23,3 +24,7 @@ row-at p i = record { processor = at (p .processors) i; start = at (p .starts) i
 pub record PlannedRows (s : List ℕ) (lent after : List Row) (r : Answer) : Type 0 where
   pub answer-is : meant-answer r ≡ answer s (length lent)
   pub rows-are : map meant-row after ≡ rows-after s (map meant-row lent)
+
+-- The same of 64 rows that hold `blank` before the call.
+abbrev pub PlannedWhole : List ℕ → Row → WholePlan → Type 0
+PlannedWhole s blank r = PlannedRows s (replicate 64 blank) (r .rows) (r .answer)

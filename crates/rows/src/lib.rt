@@ -1,10 +1,10 @@
-// The plan of a request, its rows in a lent slice of row structs.
+// The plan of a request, its rows as structs: in a lent slice, or 64 of them by value.
 ghost use mathlib.Core.Path.{_≡_};
-ghost use Prim.Native.Nat.{_≤_};
-ghost use lib.ListN.{length};
+ghost use Prim.Native.Nat.{_<_, _≤_};
+ghost use lib.ListN.{length, replicate};
 ghost use Rattle.laws.specs.Overwritten.{overwritten};
 ghost use Rattle.planner.specs.Planned.{rows-told};
-ghost use Rattle.rows.specs.Planned.{row-at, PlannedRows};
+ghost use Rattle.rows.specs.Planned.{row-at, PlannedRows, PlannedWhole};
 use planner::Answer;
 use planner::Planning;
 
@@ -32,6 +32,19 @@ fn answer_of(p: Planning) -> Answer
     answer
 }
 
+// Row i: the numbers at i in the four arrays.
+fn row_of(p: Planning, i: usize) -> Row
+    requires { ⌜ i < 64 ⌝ }
+    ensures { λ r. ⌜ r ≡ row-at p i ⌝ }
+{
+    Row {
+        processor: p.processors[i],
+        start: p.starts[i],
+        finish: p.finishes[i],
+        cost: p.costs[i],
+    }
+}
+
 // Stores the first n rows; the later ones keep their content.
 fn store(rows: &mut [Row], n: usize, p: Planning)
     requires { ⌜ (n ≤ length (now rows)) × (n ≤ 64) ⌝ }
@@ -39,12 +52,7 @@ fn store(rows: &mut [Row], n: usize, p: Planning)
 {
     let mut i = 0;
     while i < n {
-        rows[i] = Row {
-            processor: p.processors[i],
-            start: p.starts[i],
-            finish: p.finishes[i],
-            cost: p.costs[i],
-        };
+        rows[i] = row_of(p, i);
         i += 1;
     }
 }
@@ -58,4 +66,33 @@ pub fn plan(request: &[u8], rows: &mut [Row]) -> Answer
     let n = rows_due(p);
     store(rows, n, p);
     answer_of(p)
+}
+
+// The answer, and 64 rows, as many as a request has tasks at the most.
+pub struct WholePlan {
+    pub answer: Answer,
+    pub rows: [Row; 64],
+}
+
+// The rows that are lent: each holds `blank`.
+fn blank_rows(blank: Row) -> [Row; 64]
+    ensures { λ r. ⌜ r ≡ replicate 64 blank ⌝ }
+{
+    [blank; 64]
+}
+
+// The answer and the rows together.
+fn whole(answer: Answer, rows: [Row; 64]) -> WholePlan
+    ensures { λ r. ⌜ r ≡ record { answer = answer; rows = rows } ⌝ }
+{
+    WholePlan { answer, rows }
+}
+
+// Plans a request with 64 rows that hold `blank`: those that the plan does not write still hold it.
+pub fn plan_whole(request: &[u8], blank: Row) -> WholePlan
+    ensures { λ r. ⌜ PlannedWhole (now (request .entry)) blank r ⌝ }
+{
+    let mut rows = blank_rows(blank);
+    let answer = plan(request, &mut rows);
+    whole(answer, rows)
 }
