@@ -1,6 +1,6 @@
 -- The edges and `Z` that were read: how many, where they end, each edge in its range and above the one before. By induction on how
 -- many records may come, with the edges before.
-use mathlib.Core.Path.{_≡_, refl}
+use mathlib.Core.Path.{_≡_, refl, ap}
 use Prim.Native.Nat.{ℕ, zero, suc, _+_, _*_, _<_, _≤_}
 use native.Mathlib.Omega.{arith}
 use mathlib.Core.Bool.{Bool, true, false, cond, _&&_, _||_, false≢true}
@@ -9,7 +9,7 @@ use lib.ListN.{length}
 use lib.Dec.{ltb, eqb}
 use borrow.Author.Tests.{eqb-true, ltb-true}
 use Rattle.rules.specs.Fields.{E, Z, size, body, kind-byte, byte, E-from, E-to}
-use Rattle.rules.specs.Records.{Read, read, Edges, rising, edge-at, end-at}
+use Rattle.rules.specs.Records.{Record, Read, read, stopped, Edges, rising, edge-at, end-at}
 use Rattle.rules.specs.Reading.{then, edges-part}
 use Rattle.good.specs.Good.{GoodEdge, Rising}
 use Rattle.good.specs.Records.{stopped-not-read}
@@ -114,3 +114,21 @@ edges-read s n at before (suc k) {next} {total} e =
     go false rest p =
         let (place, was, here, after) = then-read (edge-at s at n before) (λ place _. further place) p in
         one-more (edge-read s at n before here) (rest place after)
+
+-- Of 513 records one is `Z` or refused, since the 513th edge is: that many are enough, and to let more come changes nothing.
+pub edges-enough : (s : List ℕ) (n at : ℕ) (before : Edges) (j k : ℕ) →
+    before .count ≤ 512 → 513 ≤ before .count + j → 513 ≤ before .count + k → edges-part s n at before j ≡ edges-part s n at before k
+unfolding edges-part then
+edges-enough s n at before zero k few l m = absurd (omega arith)
+edges-enough s n at before (suc j) zero few l m = absurd (omega arith)
+edges-enough s n at before (suc j) (suc k) few l m =
+    ap (cond (eqb (byte s at) (kind-byte Z)) (then (end-at s at) (λ next _. read next (before .count))))
+    (go (edge-at s at n before) refl (λ place room. edges-enough s n place (up-to s at (before .count)) j k room (omega arith) (omega arith)))
+  where
+    further : ℕ → ℕ → Read ℕ
+    further fuel place = edges-part s n place (up-to s at (before .count)) fuel
+
+    go : (answer : Read Record) → edge-at s at n before ≡ answer → ((place : ℕ) → before .count + 1 ≤ 512 → further j place ≡ further k place) →
+        then answer (λ place _. further j place) ≡ then answer (λ place _. further k place)
+    go (read place r) e rest = rest place (omega (arith, edge-read s at n before e .room))
+    go (stopped number place) e rest = refl

@@ -169,6 +169,7 @@ fn read_edges(s: &[u8], c: Cursor, n: usize) -> EdgesPart
         };
         left -= 1;
     }
+    // Not reached: of 513 records one is `Z` or refused (`edges-enough`, crate `good`).
     EdgesPart {
         passed: Passed::Refused(4, next.at),
         count: 0,
@@ -193,7 +194,7 @@ pub enum Reading {
     Refused(u64, usize),
 }
 
-// A part's refusal as the request's.
+// A part's refusal as the request's. Number 0 is never answered: by its contract `read_request` refuses with 1 to 6 (`stopped-with-1-to-6`, crate `demands`).
 fn refused(passed: Passed) -> Reading
     ensures { λ r. ⌜ r ≡ refusal-of passed ⌝ }
 {

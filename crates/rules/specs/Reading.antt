@@ -40,7 +40,7 @@ unfoldable pub tasks-part : List ℕ → ℕ → ℕ → ℕ → Read (Unit {0})
 tasks-part s n m at = each (task-part s m) at n
 
 -- "any number of `E` within the limit [..]; then `Z`": how many. With the edges before, and k records to read at the most: of 513
--- records one is `Z` or refused, the 513th edge being refused, so that k never runs out.
+-- records one is `Z` or refused, the 513th edge being refused, so that k never runs out (`edges-enough`, crate `good`).
 unfoldable pub edges-part : List ℕ → ℕ → ℕ → Edges → ℕ → Read ℕ
 edges-part s n at before zero = stopped 4 at
 edges-part s n at before (suc k) =

@@ -1,6 +1,5 @@
 -- By the cases of the answer, each of which tells the length.
 use mathlib.Core.Path.{sym, _∙_}
-use Rattle.rules.specs.Text.{text}
 use Rattle.text.specs.Printing.{whole-printed, too-small-printed}
 use borrow.Author.Needs.{needs}
 use Rattle.exports.proofs.zabgurin_print.Statement.{statement}

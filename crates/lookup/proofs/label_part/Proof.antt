@@ -46,7 +46,7 @@ label-of-requires c κs =
     let a = c .before .before .before .before .before .before .before .args in
     let read-request = c .before .before .before .before .before .read-request in
     let answer = c .before .before .before .answer in
-    (sym (read-request .ensures) ∙ ap (meant-reading (a .s .now)) (answer .given .1), c .if1 .left)
+    (sym (read-request .ensures) ∙ ap (meant-reading (a .s .now)) (answer .given .1), omega (arith, c .if1 .left))
 
 -- src/lib.rt:94:1
 returns-3 : tie.Need-returns-3
