@@ -10,12 +10,6 @@ use native.Mathlib.Omega.{arith}
 use borrow.Author.Needs.{needs}
 use Rattle.buffers.proofs.plan_into.Statement.{statement}
 use Rattle.buffers.proofs.plan_into.Tie as tie
-use Rattle.buffers.proofs.plan_into.Reads as reads
-use Rattle.buffers.proofs.plan_into.Lts as lts
-use Rattle.planner.proofs.plan.Reads as plan-reads
-use Rattle.planner.proofs.rows_of.Reads as rows-of-reads
-use Rattle.buffers.proofs.shortest.Reads as shortest-reads
-use Rattle.buffers.proofs.store.Reads as store-reads
 
 -- The buffers that are lent, and the outcome for as many rows as the shortest of them has numbers.
 abbrev lent : tie.After-rows-of → Buffers
@@ -37,31 +31,25 @@ in-reach : (c : tie.After-rows-of) →
     c .rows-of .result ≤ min (rows-lent (lent c)) 64
 in-reach c = rw (c .rows-of .ensures) (rows-in-reach _ _ (c .before .plan .result .answer) (planned c .answer-is))
 
--- src/lib.rt:44:9
 shortest-requires : tie.Need-shortest-requires
 shortest-requires c κs = search needs
 
--- src/lib.rt:45:13
 plan-requires : tie.Need-plan-requires
 plan-requires c κs = search needs
 
--- src/lib.rt:47:13
 rows-of-requires : tie.Need-rows-of-requires
 rows-of-requires c κs = search needs
 
--- src/lib.rt:48:5
 store-requires : tie.Need-store-requires
 unfolding rows-lent
 store-requires c κs = let fits = in-reach (c .before .before .before) in (omega arith, omega arith)
 
--- src/lib.rt:49:5
 store-requires-2 : tie.Need-store-requires-2
 unfolding rows-lent
 store-requires-2 c κs =
     let store = c .before .before .before .before .before in
     let fits = in-reach (store .before .before .before .before) in (omega arith, omega arith)
 
--- src/lib.rt:50:5
 store-requires-3 : tie.Need-store-requires-3
 unfolding rows-lent
 store-requires-3 c κs =
@@ -69,7 +57,6 @@ store-requires-3 c κs =
     let store = store2 .before .before .before .before .before .before in
     let fits = in-reach (store .before .before .before .before) in (omega arith, omega arith)
 
--- src/lib.rt:51:5
 store-requires-4 : tie.Need-store-requires-4
 unfolding rows-lent
 store-requires-4 c κs =
@@ -78,23 +65,18 @@ store-requires-4 c κs =
     let store = store2 .before .before .before .before .before .before in
     let fits = in-reach (store .before .before .before .before) in (omega arith, omega arith)
 
--- src/lib.rt:35:1
 same-length : tie.Need-same-length
 same-length c = search needs
 
--- src/lib.rt:35:1
 same-length-2 : tie.Need-same-length-2
 same-length-2 c = search needs
 
--- src/lib.rt:35:1
 same-length-3 : tie.Need-same-length-3
 same-length-3 c = search needs
 
--- src/lib.rt:35:1
 same-length-4 : tie.Need-same-length-4
 same-length-4 c = search needs
 
--- src/lib.rt:35:1
 returns : tie.Need-returns
 unfolding answer buffers-after buffers-written
 returns c =

@@ -9,8 +9,6 @@ use borrow.Author.Needs.{needs}
 use native.Mathlib.Omega.{arith}
 use Rattle.buffers.proofs.store.Statement.{statement}
 use Rattle.buffers.proofs.store.Tie as tie
-use Rattle.buffers.proofs.store.Reads as reads
-use Rattle.buffers.proofs.store.Lts as lts
 
 abbrev Inv-loop : tie.InvT-loop
 Inv-loop buffer₀ column n i₀ buffer i = (i ≤ n) × (buffer ≡ overwritten i (at column) buffer₀)
@@ -18,39 +16,31 @@ Inv-loop buffer₀ column n i₀ buffer i = (i ≤ n) × (buffer ≡ overwritten
 abbrev μ-loop : tie.MeasureT-loop
 μ-loop buffer₀ column n i₀ buffer i = n - i
 
--- src/lib.rt:17:5
 loop-holds : tie.Need-loop-holds Inv-loop μ-loop
 unfolding listing
 loop-holds c = (omega arith, refl)
 
--- src/lib.rt:18:21
 mul-buffer : tie.Need-mul-buffer Inv-loop μ-loop
 mul-buffer c = omega arith
 
--- src/lib.rt:18:21
 element-copy-out-buffer : tie.Need-element-copy-out-buffer Inv-loop μ-loop
 element-copy-out-buffer c = search needs
 
--- src/lib.rt:18:9
 mul-buffer-2 : tie.Need-mul-buffer-2 Inv-loop μ-loop
 mul-buffer-2 c = omega arith
 
--- src/lib.rt:18:9
 slice-write-buffer : tie.Need-slice-write-buffer Inv-loop μ-loop
 slice-write-buffer c =
     let loop = c .before .before .loop in
     let a = c .before .before .before .args in
     omega (arith, ap length (loop .inv .1), length-overwritten (loop .i) (at (a .column .now)) (a .buffer .now) (omega arith))
 
--- src/lib.rt:19:9
 add-i : tie.Need-add-i Inv-loop μ-loop
 add-i c = omega arith
 
--- src/lib.rt:17:5
 loop-less : tie.Need-loop-less Inv-loop μ-loop
 loop-less c = omega arith
 
--- src/lib.rt:17:5
 loop-again : tie.Need-loop-again Inv-loop μ-loop
 loop-again c =
     let loop = c .before .before .loop in
@@ -60,14 +50,12 @@ loop-again c =
           ∙ overwritten-next (loop .i) (at (a .column .now)) (a .buffer .now) (omega arith),
     )
 
--- src/lib.rt:12:1
 same-length : tie.Need-same-length Inv-loop μ-loop
 same-length c =
     let loop = c .before .loop in
     let a = c .before .before .args in
     ap length (loop .inv .1) ∙ length-overwritten (loop .i) (at (a .column .now)) (a .buffer .now) (omega arith)
 
--- src/lib.rt:12:1
 returns : tie.Need-returns Inv-loop μ-loop
 returns c =
     let loop = c .before .loop in

@@ -2,14 +2,10 @@
 use Rattle.choosing.specs.LeadingLaws.{ahead-even, ahead-uneven}
 use Rattle.choosing.proofs.ahead.Statement.{statement}
 use Rattle.choosing.proofs.ahead.Tie as tie
-use Rattle.choosing.proofs.ahead.Reads as reads
-use Rattle.choosing.proofs.ahead.Lts as lts
 
--- src/lib.rt:28:9
 returns : tie.Need-returns
 returns c = ahead-even _ _ _ (c .before .if1 .taken)
 
--- src/lib.rt:24:1
 returns-2 : tie.Need-returns-2
 returns-2 c = ahead-uneven _ _ _ (c .before .if1 .left)
 

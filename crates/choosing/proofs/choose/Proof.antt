@@ -9,13 +9,6 @@ use borrow.Author.Needs.{needs}
 use native.Mathlib.Omega.{arith}
 use Rattle.choosing.proofs.choose.Statement.{statement}
 use Rattle.choosing.proofs.choose.Tie as tie
-use Rattle.choosing.proofs.choose.Reads as reads
-use Rattle.choosing.proofs.choose.Lts as lts
-use Rattle.choosing.proofs.figures.figures_of.Reads as figures-of-reads
-use Rattle.choosing.proofs.figures.standing.Reads as standing-reads
-use Rattle.choosing.proofs.figures.weights_of.Reads as weights-of-reads
-use Rattle.choosing.proofs.led.Reads as led-reads
-use Rattle.choosing.proofs.taken.Reads as taken-reads
 
 abbrev Inv-loop : tie.InvT-loop
 Inv-loop m costs finishes rb rcb g w leader₀ j₀ leader j = (j ≤ m) × Leads (asked m costs finishes rb rcb) j leader
@@ -23,35 +16,27 @@ Inv-loop m costs finishes rb rcb g w leader₀ j₀ leader j = (j ≤ m) × Lead
 abbrev μ-loop : tie.MeasureT-loop
 μ-loop m costs finishes rb rcb g w leader₀ j₀ leader j = m - j
 
--- src/lib.rt:60:9
 figures-of-requires : tie.Need-figures-of-requires Inv-loop μ-loop
 figures-of-requires c κs = search needs
 
--- src/lib.rt:61:9
 weights-of-requires : tie.Need-weights-of-requires Inv-loop μ-loop
 weights-of-requires c κs = figures-in-range _ _ (c .figures-of .ensures) (c .before .pre)
 
--- src/lib.rt:68:5
 loop-holds : tie.Need-loop-holds Inv-loop μ-loop
 loop-holds c = (omega arith, leads-first _ _ refl refl)
 
--- src/lib.rt:69:20
 mul-cost : tie.Need-mul-cost Inv-loop μ-loop
 mul-cost c = search needs
 
--- src/lib.rt:69:20
 element-copy-out-cost : tie.Need-element-copy-out-cost Inv-loop μ-loop
 element-copy-out-cost c = search needs
 
--- src/lib.rt:70:22
 mul-finish : tie.Need-mul-finish Inv-loop μ-loop
 mul-finish c = search needs
 
--- src/lib.rt:70:22
 element-copy-out-finish : tie.Need-element-copy-out-finish Inv-loop μ-loop
 element-copy-out-finish c = search needs
 
--- src/lib.rt:71:33
 standing-requires : tie.Need-standing-requires Inv-loop μ-loop
 standing-requires c κs =
     let figures-of = c .before .before .before .before .before .figures-of in
@@ -60,19 +45,15 @@ standing-requires c κs =
       (c .before .before .before .before .weights-of .ensures, pre .costs _ (c .before .before .loop-test .taken)),
     )
 
--- src/lib.rt:71:9
 led-requires : tie.Need-led-requires Inv-loop μ-loop
 led-requires c κs = search needs
 
--- src/lib.rt:72:9
 add-j : tie.Need-add-j Inv-loop μ-loop
 add-j c = search needs
 
--- src/lib.rt:68:5
 loop-less : tie.Need-loop-less Inv-loop μ-loop
 loop-less c = search needs
 
--- src/lib.rt:68:5
 loop-again : tie.Need-loop-again Inv-loop μ-loop
 loop-again c =
     let loop = c .before .before .before .before .before .loop in
@@ -80,11 +61,9 @@ loop-again c =
     let stands = c .before .standing .ensures ∙ standing-is _ _ (figures-of .ensures) (loop .j) in
     (omega arith, leads-next _ _ _ (loop .inv .1) stands (c .led .ensures))
 
--- src/lib.rt:74:5
 taken-requires : tie.Need-taken-requires Inv-loop μ-loop
 taken-requires c κs = search needs
 
--- src/lib.rt:56:1
 returns : tie.Need-returns Inv-loop μ-loop
 returns c =
     let a = c .before .before .before .before .before .args in

@@ -4,17 +4,13 @@ use Rattle.choosing.specs.Asked.{meant-choice}
 use Rattle.choosing.specs.Leading.{taken-by}
 use Rattle.choosing.proofs.taken.Statement.{statement}
 use Rattle.choosing.proofs.taken.Tie as tie
-use Rattle.choosing.proofs.taken.Reads as reads
-use Rattle.choosing.proofs.taken.Lts as lts
 
--- src/lib.rt:50:9
 returns : tie.Need-returns
 unfolding meant-choice taken-by
 returns c =
     let a = c .before .before .args in
     rw (eq-eqb (a .leader .standing) 0 (c .if1 .taken))
 
--- src/lib.rt:46:1
 returns-2 : tie.Need-returns-2
 unfolding meant-choice taken-by
 returns-2 c =

@@ -9,9 +9,6 @@ use Rattle.cycles.specs.MarkedLaws.{marked-none, start-marked, all-marke
 use native.Mathlib.Omega.{arith}
 use Rattle.cycles.proofs.leads_back.Statement.{statement}
 use Rattle.cycles.proofs.leads_back.Tie as tie
-use Rattle.cycles.proofs.leads_back.Reads as reads
-use Rattle.cycles.proofs.leads_back.Lts as lts
-use Rattle.cycles.proofs.mark_pass.Reads as mark-pass-reads
 
 abbrev Inv-loop : tie.InvT-loop
 Inv-loop s v start marks₀ left₀ marks left = MarkedSoFar (workflow-of s v) start marks left
@@ -19,7 +16,6 @@ Inv-loop s v start marks₀ left₀ marks left = MarkedSoFar (workflow-of s v) s
 abbrev μ-loop : tie.MeasureT-loop
 μ-loop s v start marks₀ left₀ marks left = left
 
--- src/lib.rt:69:5
 loop-holds : tie.Need-loop-holds Inv-loop μ-loop
 unfolding workflow
 loop-holds c =
@@ -27,11 +23,9 @@ loop-holds c =
     let a = c .before .args in
     marked-none (workflow-of (a .s .now) (a .v)) (view-in-range (a .s .now) (a .v) (pre .0)) (a .start)
 
--- src/lib.rt:71:9
 mark-pass-requires : tie.Need-mark-pass-requires Inv-loop μ-loop
 mark-pass-requires c κs = (c .before .before .before .before .pre .0, c .before .before .loop .inv)
 
--- src/lib.rt:73:20
 array-read-result : tie.Need-array-read-result Inv-loop μ-loop
 unfolding workflow
 array-read-result c =
@@ -39,7 +33,6 @@ array-read-result c =
     let a = c .before .before .before .before .before .before .args in
     omega (arith, pre .1, view-in-range (a .s .now) (a .v) (pre .0) .tasks-in)
 
--- src/lib.rt:73:13
 returns : tie.Need-returns Inv-loop μ-loop
 unfolding workflow
 returns c =
@@ -52,15 +45,12 @@ returns c =
     let turned = mark-pass .ensures in
     start-marked W range (a .start) _ (turned-still turned (if1 .taken)) _ (turned .kept)
 
--- src/lib.rt:69:5
 loop-less : tie.Need-loop-less Inv-loop μ-loop
 loop-less c = turned-less (c .before .mark-pass .ensures) (c .if1 .left)
 
--- src/lib.rt:69:5
 loop-again : tie.Need-loop-again Inv-loop μ-loop
 loop-again c = c .before .mark-pass .ensures .kept
 
--- src/lib.rt:62:1
 returns-2 : tie.Need-returns-2 Inv-loop μ-loop
 unfolding workflow
 returns-2 c =

@@ -13,17 +13,10 @@ use native.Mathlib.Omega.{arith}
 use borrow.Author.Needs.{needs}
 use Rattle.cycles.proofs.mark_end.Statement.{statement}
 use Rattle.cycles.proofs.mark_end.Tie as tie
-use Rattle.cycles.proofs.mark_end.Reads as reads
-use Rattle.cycles.proofs.mark_end.Lts as lts
-use Rattle.lookup.proofs.from.Reads as from-reads
-use Rattle.lookup.proofs.to.Reads as to-reads
-use Rattle.cycles.proofs.reached.Reads as reached-reads
 
--- src/lib.rt:35:9
 to-requires : tie.Need-to-requires
 to-requires c κs = search needs
 
--- src/lib.rt:36:8
 element-copy-out-if1 : tie.Need-element-copy-out-if1
 unfolding workflow
 element-copy-out-if1 c =
@@ -32,7 +25,6 @@ element-copy-out-if1 c =
     let to = c .to in
     omega (arith, to .ensures .1, view-in-range (a .s .now) (a .v) (pre .0) .tasks-in)
 
--- src/lib.rt:37:9
 returns : tie.Need-returns
 returns c =
     let pre = c .before .before .before .before .pre in
@@ -41,11 +33,9 @@ returns c =
     let if1 = c .if1 in
     turned-none (pre .1 .1) (λ h. ap (marked (a .marks .now)) (sym (to .ensures .0)) ∙ if1 .taken)
 
--- src/lib.rt:39:30
 from-requires : tie.Need-from-requires
 from-requires c κs = search needs
 
--- src/lib.rt:39:8
 reached-requires : tie.Need-reached-requires
 unfolding workflow
 reached-requires c κs =
@@ -54,7 +44,6 @@ reached-requires c κs =
     let from = c .from in
     omega (arith, from .ensures .1, view-in-range (a .s .now) (a .v) (pre .0) .tasks-in)
 
--- src/lib.rt:40:9
 element-write-marks : tie.Need-element-write-marks
 unfolding workflow
 element-write-marks c =
@@ -63,7 +52,6 @@ element-write-marks c =
     let to = c .before .before .before .before .before .before .to in
     omega (arith, to .ensures .1, view-in-range (a .s .now) (a .v) (pre .0) .tasks-in)
 
--- src/lib.rt:41:16
 sub-result : tie.Need-sub-result
 unfolding workflow
 sub-result c =
@@ -76,7 +64,6 @@ sub-result c =
     let free = ap (marked (a .marks .now)) (sym (to .ensures .0)) ∙ if1 .left in
     some-left W range (a .start) (a .marks .now) (a .left) (a .edge) (pre .1 .1) (pre .1 .0) free
 
--- src/lib.rt:41:9
 returns-2 : tie.Need-returns-2
 unfolding workflow
 returns-2 c =
@@ -95,7 +82,6 @@ returns-2 c =
     rw (to .ensures .0)
     (mark-turned W range (a .start) (a .marks .now) (a .left) (a .edge) (pre .1 .1) (pre .1 .0) free is-reached)
 
--- src/lib.rt:23:1
 returns-3 : tie.Need-returns-3
 returns-3 c =
     let pre = c .before .before .before .before .before .before .before .before .pre in

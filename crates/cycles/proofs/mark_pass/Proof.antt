@@ -9,9 +9,6 @@ use Rattle.cycles.specs.MarkedLaws.{followed-more}
 use native.Mathlib.Omega.{arith}
 use Rattle.cycles.proofs.mark_pass.Statement.{statement}
 use Rattle.cycles.proofs.mark_pass.Tie as tie
-use Rattle.cycles.proofs.mark_pass.Reads as reads
-use Rattle.cycles.proofs.mark_pass.Lts as lts
-use Rattle.cycles.proofs.mark_end.Reads as mark-end-reads
 
 abbrev Inv-loop : tie.InvT-loop
 Inv-loop s v marks₀ start left now-left₀ e₀ marks now-left e =
@@ -20,26 +17,21 @@ Inv-loop s v marks₀ start left now-left₀ e₀ marks now-left e =
 abbrev μ-loop : tie.MeasureT-loop
 μ-loop s v marks₀ start left now-left₀ e₀ marks now-left e = v .edges - e
 
--- src/lib.rt:54:5
 loop-holds : tie.Need-loop-holds Inv-loop μ-loop
 loop-holds c = (omega arith, turned-none (c .before .pre .1) (λ e l. absurd (omega arith)))
 
--- src/lib.rt:55:9
 mark-end-requires : tie.Need-mark-end-requires Inv-loop μ-loop
 mark-end-requires c κs =
     let pre = c .before .before .before .before .before .pre in
     let loop = c .before .before .before .loop in
     (pre .0, (omega arith, loop .inv .1 .kept))
 
--- src/lib.rt:56:9
 add-e : tie.Need-add-e Inv-loop μ-loop
 add-e c = omega arith
 
--- src/lib.rt:54:5
 loop-less : tie.Need-loop-less Inv-loop μ-loop
 loop-less c = omega arith
 
--- src/lib.rt:54:5
 loop-again : tie.Need-loop-again Inv-loop μ-loop
 loop-again c =
     let pre = c .before .before .before .before .before .before .pre in
@@ -53,7 +45,6 @@ loop-again c =
       turned-next (followed-more W range (a .start) e) (loop .inv .1) (mark-end .ensures),
     )
 
--- src/lib.rt:47:1
 returns : tie.Need-returns Inv-loop μ-loop
 returns c =
     let a = c .before .before .before .before .args in

@@ -28,57 +28,46 @@ put-decimal-below t =
 abbrev claims : ℕ → put-decimal-lts.Claims
 claims t = (put-byte-reads.Asked, put-byte-reads.Learnt, put-decimal-below t, put-decimal.Post)
 
--- src/lib.rt:37:41
 put-decimal-cast-put-byte : (t : ℕ) → put-decimal-lts.Need-cast-put-byte (claims t) (put-decimal-at t) put-decimal.Post
 put-decimal-cast-put-byte t c = search needs
 
--- src/lib.rt:37:34
 put-decimal-add-put-byte : (t : ℕ) → put-decimal-lts.Need-add-put-byte (claims t) (put-decimal-at t) put-decimal.Post
 put-decimal-add-put-byte t c = search needs
 
--- src/lib.rt:37:9
 put-decimal-put-byte-requires : (t : ℕ) → put-decimal-lts.Need-put-byte-requires (claims t) (put-decimal-at t) put-decimal.Post
 put-decimal-put-byte-requires t c κs =
     let start = c .before .before .before in
     rw (decimal-digit (start .args .x) (c .before .if1 .taken)) at (start .pre .1)
 
--- src/lib.rt:37:9
 put-decimal-same-length : (t : ℕ) → put-decimal-lts.Need-same-length (claims t) (put-decimal-at t) put-decimal.Post
 put-decimal-same-length t c = search needs
 
--- src/lib.rt:37:9
 put-decimal-returns : (t : ℕ) → put-decimal-lts.Need-returns (claims t) (put-decimal-at t) put-decimal.Post
 put-decimal-returns t c =
     let start = c .before .before .before .before .before .before in
     rw (decimal-digit (start .args .x) (c .before .before .before .before .if1 .taken)) (c .before .before .put-byte .ensures)
 
--- src/lib.rt:39:9
 put-decimal-put-decimal-requires : (t : ℕ) → put-decimal-lts.Need-put-decimal-requires (claims t) (put-decimal-at t) put-decimal.Post
 put-decimal-put-decimal-requires t c κs =
     let start = c .before .before .before in
     let longer = c .before .if1 .left in
     (omega (arith, start .pre .0), room-first _ (rw (decimal-longer (start .args .x) longer) at (start .pre .1)))
 
--- src/lib.rt:40:31
 put-decimal-cast-put-byte-2 : (t : ℕ) → put-decimal-lts.Need-cast-put-byte-2 (claims t) (put-decimal-at t) put-decimal.Post
 put-decimal-cast-put-byte-2 t c = search needs
 
--- src/lib.rt:40:24
 put-decimal-add-put-byte-2 : (t : ℕ) → put-decimal-lts.Need-add-put-byte-2 (claims t) (put-decimal-at t) put-decimal.Post
 put-decimal-add-put-byte-2 t c = search needs
 
--- src/lib.rt:40:5
 put-decimal-put-byte-requires-2 : (t : ℕ) → put-decimal-lts.Need-put-byte-requires-2 (claims t) (put-decimal-at t) put-decimal.Post
 put-decimal-put-byte-requires-2 t c κs =
     let first = c .before .before .before in
     let start = first .before .before .before .before in
     room-next (rw (decimal-longer (start .args .x) (first .before .before .if1 .left)) at (start .pre .1)) (first .put-decimal .ensures)
 
--- src/lib.rt:32:1
 put-decimal-same-length-2 : (t : ℕ) → put-decimal-lts.Need-same-length-2 (claims t) (put-decimal-at t) put-decimal.Post
 put-decimal-same-length-2 t c = search needs
 
--- src/lib.rt:32:1
 put-decimal-returns-2 : (t : ℕ) → put-decimal-lts.Need-returns-2 (claims t) (put-decimal-at t) put-decimal.Post
 put-decimal-returns-2 t c =
     let first = c .before .before .before .before .before .before in

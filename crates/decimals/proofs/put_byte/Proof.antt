@@ -3,22 +3,16 @@ use Rattle.decimals.specs.Wrote.{wrote-byte}
 use borrow.Author.Needs.{needs}
 use Rattle.decimals.proofs.put_byte.Statement.{statement}
 use Rattle.decimals.proofs.put_byte.Tie as tie
-use Rattle.decimals.proofs.put_byte.Reads as reads
-use Rattle.decimals.proofs.put_byte.Lts as lts
 
--- src/lib.rt:12:5
 slice-write-out : tie.Need-slice-write-out
 slice-write-out c = search needs
 
--- src/lib.rt:13:5
 add-result : tie.Need-add-result
 add-result c = search needs
 
--- src/lib.rt:8:1
 same-length : tie.Need-same-length
 same-length c = search needs
 
--- src/lib.rt:8:1
 returns : tie.Need-returns
 returns c = wrote-byte (c .args .out .now) (c .args .at) (c .args .b) (c .pre)
 

@@ -8,8 +8,6 @@ use Rattle.decimals.specs.Wrote.{Wrote, wrote-nothing, wrote-byte, wrote
 use native.Mathlib.Omega.{arith}
 use Rattle.decimals.proofs.put_bytes.Statement.{statement}
 use Rattle.decimals.proofs.put_bytes.Tie as tie
-use Rattle.decimals.proofs.put_bytes.Reads as reads
-use Rattle.decimals.proofs.put_bytes.Lts as lts
 
 abbrev Inv-loop : tie.InvT-loop
 Inv-loop out₀ at bytes end₀ i₀ out end i = (i ≤ length bytes) × Wrote out₀ at (take i bytes) out end
@@ -25,31 +23,24 @@ ends-in-room c =
     let wrote = c .loop .inv .1 in
     (omega (arith, wrote .ends, long), wrote-length (record { fits = omega (arith, c .before .pre .fits, long) }) wrote)
 
--- src/lib.rt:23:5
 loop-holds : tie.Need-loop-holds Inv-loop μ-loop
 loop-holds c = (omega arith, wrote-nothing _ _)
 
--- src/lib.rt:24:20
 shared-slice-read-out : tie.Need-shared-slice-read-out Inv-loop μ-loop
 shared-slice-read-out c = omega arith
 
--- src/lib.rt:24:9
 slice-write-out : tie.Need-slice-write-out Inv-loop μ-loop
 slice-write-out c = let fits = ends-in-room (c .before .before) in omega arith
 
--- src/lib.rt:25:9
 add-end : tie.Need-add-end Inv-loop μ-loop
 add-end c = let fits = ends-in-room (c .before .before) in omega arith
 
--- src/lib.rt:26:9
 add-i : tie.Need-add-i Inv-loop μ-loop
 add-i c = omega arith
 
--- src/lib.rt:23:5
 loop-less : tie.Need-loop-less Inv-loop μ-loop
 loop-less c = omega arith
 
--- src/lib.rt:23:5
 loop-again : tie.Need-loop-again Inv-loop μ-loop
 loop-again c =
     let loop = c .before .before .loop in
@@ -59,11 +50,9 @@ loop-again c =
           (wrote-then (loop .inv .1) (wrote-byte (loop .out) (loop .end) _ (record { fits = omega arith }))),
     )
 
--- src/lib.rt:17:1
 same-length : tie.Need-same-length Inv-loop μ-loop
 same-length c = ends-in-room (c .before) .1
 
--- src/lib.rt:17:1
 returns : tie.Need-returns Inv-loop μ-loop
 returns c =
     let loop = c .before .loop in

@@ -3,26 +3,18 @@ use Rattle.decimals.specs.Wrote.{wrote-then, room-first, room-next}
 use borrow.Author.Needs.{needs}
 use Rattle.decimals.proofs.put_field.Statement.{statement}
 use Rattle.decimals.proofs.put_field.Tie as tie
-use Rattle.decimals.proofs.put_field.Reads as reads
-use Rattle.decimals.proofs.put_field.Lts as lts
-use Rattle.decimals.proofs.put_byte.Reads as put-byte-reads
-use Rattle.decimals.proofs.put_decimal.Reads as put-decimal-reads
 
--- src/lib.rt:48:9
 put-decimal-requires : tie.Need-put-decimal-requires
 put-decimal-requires c κs = room-first _ (c .before .before .pre)
 
--- src/lib.rt:49:5
 put-byte-requires : tie.Need-put-byte-requires
 put-byte-requires c κs =
     let first = c .before .before .before in
     room-next (first .before .before .before .pre) (first .put-decimal .ensures)
 
--- src/lib.rt:44:1
 same-length : tie.Need-same-length
 same-length c = search needs
 
--- src/lib.rt:44:1
 returns : tie.Need-returns
 returns c = wrote-then (c .before .before .before .before .before .before .put-decimal .ensures) (c .before .before .put-byte .ensures)
 

@@ -5,9 +5,6 @@ use Rattle.decimals.specs.Wrote.{Room, wrote-then, room-first, room-next
 use borrow.Author.Needs.{needs}
 use Rattle.decimals.proofs.put_four.Statement.{statement}
 use Rattle.decimals.proofs.put_four.Tie as tie
-use Rattle.decimals.proofs.put_four.Reads as reads
-use Rattle.decimals.proofs.put_four.Lts as lts
-use Rattle.decimals.proofs.put_field.Reads as put-field-reads
 
 -- The room for all four, and what is left of it after one and after two.
 for-four : (c : tie.Start) →
@@ -25,29 +22,23 @@ for-two : (c : tie.After-put-field2) →
     Room (c .put-field2 .last .0) (c .put-field2 .result) (field (a .c) 32 ++ field (a .d) 10)
 for-two c = room-next (for-three (c .before .before .before .before)) (c .put-field2 .ensures)
 
--- src/lib.rt:57:9
 put-field-requires : tie.Need-put-field-requires
 put-field-requires c κs = room-first _ (for-four (c .before .before))
 
--- src/lib.rt:58:9
 put-field-requires-2 : tie.Need-put-field-requires-2
 put-field-requires-2 c κs = room-first _ (for-three (c .before .before .before))
 
--- src/lib.rt:59:9
 put-field-requires-3 : tie.Need-put-field-requires-3
 put-field-requires-3 c κs = room-first _ (for-two (c .before .before .before))
 
--- src/lib.rt:60:5
 put-field-requires-4 : tie.Need-put-field-requires-4
 put-field-requires-4 c κs =
     let third = c .before .before .before in
     room-next (for-two (third .before .before .before .before)) (third .put-field3 .ensures)
 
--- src/lib.rt:53:1
 same-length : tie.Need-same-length
 same-length c = search needs
 
--- src/lib.rt:53:1
 returns : tie.Need-returns
 returns c =
     let fourth = c .before .before in

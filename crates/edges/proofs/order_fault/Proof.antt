@@ -6,20 +6,15 @@ use Rattle.rules.specs.Records.{unless, rising}
 use Rattle.edges.specs.Meaning.{meant-edges}
 use Rattle.edges.proofs.order_fault.Statement.{statement}
 use Rattle.edges.proofs.order_fault.Tie as tie
-use Rattle.edges.proofs.order_fault.Reads as reads
-use Rattle.edges.proofs.order_fault.Lts as lts
 
--- src/lib.rt:22:9
 returns : tie.Need-returns
 unfolding rising unless
 returns c = simp (eq-eqb _ _ (c .if1 .taken))
 
--- src/lib.rt:25:9
 returns-2 : tie.Need-returns-2
 unfolding rising unless
 returns-2 c = simp (ne-eqb _ _ (c .before .before .if1 .left), lt-ltb _ _ (c .if2 .taken))
 
--- src/lib.rt:28:9
 returns-3 : tie.Need-returns-3
 unfolding rising unless
 returns-3 c = simp (ne-eqb _ _ (c .before .before .before .before .if1 .left), le-ltb _ _ (c .before .before .if2 .left), ne-eqb _ _ (c .if3 .taken))
@@ -33,12 +28,10 @@ by-to c =
     let above = c .before .before .before in
     simp (ne-eqb _ _ (above .before .before .if1 .left), le-ltb _ _ (above .if2 .left), eq-eqb _ _ (c .before .if3 .left))
 
--- src/lib.rt:31:9
 returns-4 : tie.Need-returns-4
 unfolding unless
 returns-4 c = rw (lt-ltb _ _ (c .if4 .taken)) at (by-to (c .before))
 
--- src/lib.rt:18:1
 returns-5 : tie.Need-returns-5
 unfolding unless
 returns-5 c = rw (le-ltb _ _ (c .if4 .left)) at (by-to (c .before))

@@ -7,26 +7,19 @@ use Rattle.records.proofs.Laws.{only-check}
 use borrow.Author.Needs.{needs}
 use Rattle.edges.proofs.range_fault.Statement.{statement}
 use Rattle.edges.proofs.range_fault.Tie as tie
-use Rattle.edges.proofs.range_fault.Reads as reads
-use Rattle.edges.proofs.range_fault.Lts as lts
-use Rattle.fields.proofs.outside.Reads as outside-reads
 
--- src/lib.rt:41:9
 returns : tie.Need-returns
 unfolding edge-ranges first-fault unless
 returns c = simp (le-ltb _ _ (c .if1 .taken))
 
--- src/lib.rt:44:9
 returns-2 : tie.Need-returns-2
 unfolding edge-ranges first-fault unless
 returns-2 c = simp (lt-ltb _ _ (c .before .if1 .left), le-ltb _ _ (c .if2 .taken))
 
--- src/lib.rt:47:9
 returns-3 : tie.Need-returns-3
 unfolding edge-ranges first-fault unless
 returns-3 c = simp (lt-ltb _ _ (c .before .before .if1 .left), lt-ltb _ _ (c .before .if2 .left), eq-eqb _ _ (c .if3 .taken))
 
--- src/lib.rt:49:8
 outside-requires : tie.Need-outside-requires
 outside-requires c κs = search needs
 
@@ -39,12 +32,10 @@ by-transfer c =
     simp (lt-ltb _ _ (c .before .before .before .if1 .left), lt-ltb _ _ (c .before .before .if2 .left), ne-eqb _ _ (c .before .if3 .left), c .outside .ensures)
     (only-check _)
 
--- src/lib.rt:50:9
 returns-4 : tie.Need-returns-4
 unfolding unless
 returns-4 c = rw (c .if4 .taken) at (by-transfer (c .before))
 
--- src/lib.rt:37:1
 returns-5 : tie.Need-returns-5
 unfolding unless
 returns-5 c = rw (c .if4 .left) at (by-transfer (c .before))

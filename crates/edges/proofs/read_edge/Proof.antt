@@ -13,19 +13,10 @@ use native.Mathlib.Omega.{arith}
 use borrow.Author.Needs.{needs}
 use Rattle.edges.proofs.read_edge.Statement.{statement}
 use Rattle.edges.proofs.read_edge.Tie as tie
-use Rattle.edges.proofs.read_edge.Reads as reads
-use Rattle.edges.proofs.read_edge.Lts as lts
-use Rattle.fields.proofs.field.Reads as field-reads
-use Rattle.fields.proofs.opening_fault.Reads as opening-fault-reads
-use Rattle.edges.proofs.order_fault.Reads as order-fault-reads
-use Rattle.edges.proofs.range_fault.Reads as range-fault-reads
-use Rattle.fields.proofs.two_bytes.Reads as two-bytes-reads
 
--- src/lib.rt:60:9
 opening-fault-requires : tie.Need-opening-fault-requires
 opening-fault-requires c κs = search needs
 
--- src/lib.rt:62:9
 returns : tie.Need-returns
 unfolding edge-at kind-byte size body
 returns c = refused-at-opening _ _ E (c .before .opening-fault .ensures .0) _ _ (c .if1 .taken)
@@ -34,30 +25,24 @@ returns c = refused-at-opening _ _ E (c .before .opening-fault .ensures .0) _ _ 
 whole : (c : tie.Else1) → let a = c .before .before .before .args in a .c .at + 5 ≤ length (a .s .now)
 whole c = c .before .opening-fault .ensures .1 (c .if1 .left)
 
--- src/lib.rt:65:9
 returns-2 : tie.Need-returns-2
 unfolding edge-at unless first-fault answered kind-byte size body
 returns-2 c =
     let opened = c .before .before in
     answered-by-its-own _ _ E (opened .before .opening-fault .ensures .0) _ _ (opened .if1 .left) (simp (le-ltb _ _ (c .if2 .taken)))
 
--- src/lib.rt:67:9
 field-requires : tie.Need-field-requires
 field-requires c κs = omega (arith, whole (c .before .before))
 
--- src/lib.rt:68:9
 field-requires-2 : tie.Need-field-requires-2
 field-requires-2 c κs = omega (arith, whole (c .before .before .before))
 
--- src/lib.rt:69:9
 two-bytes-requires : tie.Need-two-bytes-requires
 two-bytes-requires c κs = omega (arith, whole (c .before .before .before .before))
 
--- src/lib.rt:70:9
 order-fault-requires : tie.Need-order-fault-requires
 order-fault-requires c κs = search needs
 
--- src/lib.rt:71:9
 range-fault-requires : tie.Need-range-fault-requires
 range-fault-requires c κs = search needs
 
@@ -73,7 +58,6 @@ order : (c : tie.After-order-fault) →
 unfolding E-from E-to
 order c = rw (c .before .before .before .field .ensures .0, c .before .before .field2 .ensures .0) at (c .order-fault .ensures)
 
--- src/lib.rt:73:9
 returns-3 : tie.Need-returns-3
 unfolding edge-at kind-byte size body
 returns-3 c =
@@ -104,15 +88,12 @@ by-range c =
     answered-by-its-own _ _ E (opened .before .opening-fault .ensures .0) _ _ (opened .if1 .left)
     (rw (range ∙ fault-later _ _ (sym (order ordered) ∙ c .if3 .left) ∙ fault-later _ _ (room few), from, to, transfer))
 
--- src/lib.rt:76:9
 returns-4 : tie.Need-returns-4
 returns-4 c = answers-refusal _ _ _ refl (c .if4 .taken) ∙ by-range (c .before)
 
--- src/lib.rt:78:37
 add-t13 : tie.Need-add-t13
 add-t13 c = omega (arith, whole (c .before .before .before .before .before .before .before .before .before))
 
--- src/lib.rt:56:1
 returns-5 : tie.Need-returns-5
 returns-5 c = answers-record _ _ (c .if4 .left) refl ∙ by-range (c .before)
 

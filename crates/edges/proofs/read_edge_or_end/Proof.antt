@@ -11,22 +11,15 @@ use native.Mathlib.Omega.{arith}
 use borrow.Author.Needs.{needs}
 use Rattle.edges.proofs.read_edge_or_end.Statement.{statement}
 use Rattle.edges.proofs.read_edge_or_end.Tie as tie
-use Rattle.edges.proofs.read_edge_or_end.Reads as reads
-use Rattle.edges.proofs.read_edge_or_end.Lts as lts
-use Rattle.records.proofs.kind.Reads as kind-reads
-use Rattle.edges.proofs.read_edge.Reads as read-edge-reads
 
--- src/lib.rt:86:8
 kind-requires : tie.Need-kind-requires
 kind-requires c κs = search needs
 
--- src/lib.rt:87:48
 add-t8 : tie.Need-add-t8
 add-t8 c =
     let a = c .before .before .before .args in
     omega (arith, byte-there (a .s .now) (a .c .at) (sym (c .before .kind .ensures) ∙ c .if1 .taken))
 
--- src/lib.rt:87:9
 returns : tie.Need-returns
 unfolding edge-or-end-at end-at record-at opening opening-by answered first-fault unless kind-byte size body
 returns c =
@@ -36,11 +29,9 @@ returns c =
     let whole : a .c .at + 1 ≤ length (a .s .now) = omega (arith, there) in
     simp (← kind .ensures, c .if1 .taken, lt-ltb _ _ there, le-leb _ _ whole)
 
--- src/lib.rt:89:5
 read-edge-requires : tie.Need-read-edge-requires
 read-edge-requires c κs = search needs
 
--- src/lib.rt:82:1
 returns-2 : tie.Need-returns-2
 unfolding edge-or-end-at kind-byte
 returns-2 c = rw (← c .before .before .kind .ensures, ne-eqb _ _ (c .before .if1 .left)) (c .read-edge .ensures)

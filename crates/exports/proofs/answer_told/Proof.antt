@@ -3,23 +3,17 @@ use Rattle.planner.specs.Planned.{meant-answer}
 use borrow.Author.Needs.{needs}
 use Rattle.exports.proofs.answer_told.Statement.{statement}
 use Rattle.exports.proofs.answer_told.Tie as tie
-use Rattle.exports.proofs.answer_told.Reads as reads
-use Rattle.exports.proofs.answer_told.Lts as lts
 
--- src/lib.rt:130:13
 enum-known-answer : tie.Need-enum-known-answer
 enum-known-answer c = search needs
 
--- src/lib.rt:142:27
 enum-known-answer-2 : tie.Need-enum-known-answer-2
 enum-known-answer-2 c = search needs
 
--- src/lib.rt:125:1
 returns : tie.Need-returns
 unfolding meant-answer
 returns c = rw (c .before .answer .given .1)
 
--- src/lib.rt:125:1
 returns-2 : tie.Need-returns-2
 unfolding meant-answer
 returns-2 c = rw (c .before .answer2 .given .1)

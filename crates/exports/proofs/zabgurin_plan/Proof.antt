@@ -4,36 +4,25 @@ use Rattle.exports.specs.Told.{told-answer}
 use borrow.Author.Needs.{needs}
 use Rattle.exports.proofs.zabgurin_plan.Statement.{statement}
 use Rattle.exports.proofs.zabgurin_plan.Tie as tie
-use Rattle.exports.proofs.zabgurin_plan.Reads as reads
-use Rattle.exports.proofs.zabgurin_plan.Lts as lts
-use Rattle.exports.proofs.answer_told.Reads as answer-told-reads
-use Rattle.buffers.proofs.plan_into.Reads as plan-into-reads
 
--- src/lib.rt:165:9
 plan-into-requires : tie.Need-plan-into-requires
 plan-into-requires c κs = search needs
 
--- src/lib.rt:166:5
 answer-told-requires : tie.Need-answer-told-requires
 answer-told-requires c κs = search needs
 
--- src/lib.rt:155:1
 same-length : tie.Need-same-length
 same-length c = search needs
 
--- src/lib.rt:155:1
 same-length-2 : tie.Need-same-length-2
 same-length-2 c = search needs
 
--- src/lib.rt:155:1
 same-length-3 : tie.Need-same-length-3
 same-length-3 c = search needs
 
--- src/lib.rt:155:1
 same-length-4 : tie.Need-same-length-4
 same-length-4 c = search needs
 
--- src/lib.rt:155:1
 returns : tie.Need-returns
 returns c =
     let plan-into = c .before .before .before .before .before .before .before .before .before .plan-into .ensures in

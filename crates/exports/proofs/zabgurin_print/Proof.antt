@@ -4,37 +4,27 @@ use Rattle.text.specs.Printing.{whole-printed, too-small-printed}
 use borrow.Author.Needs.{needs}
 use Rattle.exports.proofs.zabgurin_print.Statement.{statement}
 use Rattle.exports.proofs.zabgurin_print.Tie as tie
-use Rattle.exports.proofs.zabgurin_print.Reads as reads
-use Rattle.exports.proofs.zabgurin_print.Lts as lts
-use Rattle.text.proofs.print.Reads as print-reads
 
--- src/lib.rt:179:9
 print-requires : tie.Need-print-requires
 print-requires c κs = search needs
 
--- src/lib.rt:181:24
 enum-known-printed : tie.Need-enum-known-printed
 enum-known-printed c = search needs
 
--- src/lib.rt:182:27
 enum-known-printed-2 : tie.Need-enum-known-printed-2
 enum-known-printed-2 c = search needs
 
--- src/lib.rt:175:1
 same-length : tie.Need-same-length
 same-length c = search needs
 
--- src/lib.rt:175:1
 returns : tie.Need-returns
 returns c =
     let print = c .before .before .before .before .before .print .ensures in
     (whole-printed _ _ (sym (c .before .printed .given .1) ∙ print .answer-is) .0, print .after-is)
 
--- src/lib.rt:175:1
 same-length-2 : tie.Need-same-length-2
 same-length-2 c = search needs
 
--- src/lib.rt:175:1
 returns-2 : tie.Need-returns-2
 returns-2 c =
     let print = c .before .before .before .before .before .print .ensures in

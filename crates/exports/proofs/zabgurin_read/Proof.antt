@@ -2,32 +2,22 @@
 use borrow.Author.Needs.{needs}
 use Rattle.exports.proofs.zabgurin_read.Statement.{statement}
 use Rattle.exports.proofs.zabgurin_read.Tie as tie
-use Rattle.exports.proofs.zabgurin_read.Reads as reads
-use Rattle.exports.proofs.zabgurin_read.Lts as lts
-use Rattle.exports.proofs.deadline_minutes.Reads as deadline-minutes-reads
-use Rattle.reader.proofs.read_request.Reads as read-request-reads
 
--- src/lib.rt:60:9
 read-request-requires : tie.Need-read-request-requires
 read-request-requires c κs = search needs
 
--- src/lib.rt:62:23
 enum-known-answer : tie.Need-enum-known-answer
 enum-known-answer c = search needs
 
--- src/lib.rt:70:27
 deadline-minutes-requires : tie.Need-deadline-minutes-requires
 deadline-minutes-requires c κs = search needs
 
--- src/lib.rt:77:26
 enum-known-answer-2 : tie.Need-enum-known-answer-2
 enum-known-answer-2 c = search needs
 
--- src/lib.rt:56:1
 returns : tie.Need-returns
 returns c = rw (← c .before .before .before .before .read-request .ensures, c .before .before .answer .given .1, c .deadline-minutes .ensures)
 
--- src/lib.rt:56:1
 returns-2 : tie.Need-returns-2
 returns-2 c = rw (← c .before .before .before .read-request .ensures, c .before .answer2 .given .1)
 

@@ -3,23 +3,16 @@ use Rattle.rules.specs.Fields.{byte}
 use borrow.Author.Needs.{needs}
 use Rattle.fields.proofs.field.Statement.{statement}
 use Rattle.fields.proofs.field.Tie as tie
-use Rattle.fields.proofs.field.Reads as reads
-use Rattle.fields.proofs.field.Lts as lts
-use Rattle.fields.proofs.number.Reads as number-reads
 
--- src/lib.rt:20:14
 add-number : tie.Need-add-number
 add-number c = search needs
 
--- src/lib.rt:20:12
 shared-slice-read-number : tie.Need-shared-slice-read-number
 shared-slice-read-number c = search needs
 
--- src/lib.rt:20:5
 number-requires : tie.Need-number-requires
 number-requires c κs = search needs
 
--- src/lib.rt:16:1
 returns : tie.Need-returns
 unfolding byte
 returns c = c .number .ensures

@@ -6,31 +6,22 @@ use native.Mathlib.Omega.{arith}
 use borrow.Author.Needs.{needs}
 use Rattle.fields.proofs.four_bytes.Statement.{statement}
 use Rattle.fields.proofs.four_bytes.Tie as tie
-use Rattle.fields.proofs.four_bytes.Reads as reads
-use Rattle.fields.proofs.four_bytes.Lts as lts
-use Rattle.fields.proofs.two_bytes.Reads as two-bytes-reads
 
--- src/lib.rt:38:5
 two-bytes-requires : tie.Need-two-bytes-requires
 two-bytes-requires c κs = search needs
 
--- src/lib.rt:38:49
 add-two-bytes : tie.Need-add-two-bytes
 add-two-bytes c = search needs
 
--- src/lib.rt:38:36
 two-bytes-requires-2 : tie.Need-two-bytes-requires-2
 two-bytes-requires-2 c κs = search needs
 
--- src/lib.rt:38:27
 mul-result : tie.Need-mul-result
 mul-result c = search needs
 
--- src/lib.rt:38:5
 add-result : tie.Need-add-result
 add-result c = search needs
 
--- src/lib.rt:34:1
 returns : tie.Need-returns
 unfolding four-bytes
 returns c =

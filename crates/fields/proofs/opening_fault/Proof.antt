@@ -8,28 +8,21 @@ use native.Mathlib.Omega.{arith}
 use borrow.Author.Needs.{needs}
 use Rattle.fields.proofs.opening_fault.Statement.{statement}
 use Rattle.fields.proofs.opening_fault.Tie as tie
-use Rattle.fields.proofs.opening_fault.Reads as reads
-use Rattle.fields.proofs.opening_fault.Lts as lts
 
--- src/lib.rt:46:9
 returns : tie.Need-returns
 unfolding opening-by first-fault unless byte
 returns c = (simp (le-ltb _ _ (c .if1 .taken)), λ e. absurd (omega arith))
 
--- src/lib.rt:48:8
 shared-slice-read-if2 : tie.Need-shared-slice-read-if2
 shared-slice-read-if2 c = search needs
 
--- src/lib.rt:49:9
 returns-2 : tie.Need-returns-2
 unfolding opening-by first-fault unless byte
 returns-2 c = (simp (lt-ltb _ _ (c .before .before .if1 .left), ne-eqb _ _ (c .if2 .taken)), λ e. absurd (omega arith))
 
--- src/lib.rt:51:8
 sub-if3 : tie.Need-sub-if3
 sub-if3 c = search needs
 
--- src/lib.rt:52:9
 returns-3 : tie.Need-returns-3
 unfolding opening-by first-fault unless byte
 returns-3 c =
@@ -40,7 +33,6 @@ returns-3 c =
       λ e. absurd (omega arith),
     )
 
--- src/lib.rt:42:1
 returns-4 : tie.Need-returns-4
 unfolding opening-by first-fault unless byte
 returns-4 c =

@@ -3,20 +3,15 @@ use borrow.Author.Tests.{lt-leb, le-leb}
 use Rattle.rules.specs.Records.{within}
 use Rattle.fields.proofs.outside.Statement.{statement}
 use Rattle.fields.proofs.outside.Tie as tie
-use Rattle.fields.proofs.outside.Reads as reads
-use Rattle.fields.proofs.outside.Lts as lts
 
--- src/lib.rt:62:9
 returns : tie.Need-returns
 unfolding within
 returns c = simp (lt-leb _ _ (c .if1 .taken))
 
--- src/lib.rt:65:9
 returns-2 : tie.Need-returns-2
 unfolding within
 returns-2 c = simp (le-leb _ _ (c .before .if1 .left), lt-leb _ _ (c .if2 .taken))
 
--- src/lib.rt:58:1
 returns-3 : tie.Need-returns-3
 unfolding within
 returns-3 c = simp (le-leb _ _ (c .before .if1 .left), le-leb _ _ (c .if2 .left))

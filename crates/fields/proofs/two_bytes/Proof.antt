@@ -6,31 +6,22 @@ use native.Mathlib.Omega.{arith}
 use borrow.Author.Needs.{needs}
 use Rattle.fields.proofs.two_bytes.Statement.{statement}
 use Rattle.fields.proofs.two_bytes.Tie as tie
-use Rattle.fields.proofs.two_bytes.Reads as reads
-use Rattle.fields.proofs.two_bytes.Lts as lts
-use Rattle.fields.proofs.field.Reads as field-reads
 
--- src/lib.rt:28:15
 field-requires : tie.Need-field-requires
 field-requires c κs = search needs
 
--- src/lib.rt:29:25
 add-field : tie.Need-add-field
 add-field c = search needs
 
--- src/lib.rt:29:16
 field-requires-2 : tie.Need-field-requires-2
 field-requires-2 c κs = search needs
 
--- src/lib.rt:30:11
 mul-result : tie.Need-mul-result
 mul-result c = search needs
 
--- src/lib.rt:30:5
 add-result : tie.Need-add-result
 add-result c = search needs
 
--- src/lib.rt:24:1
 returns : tie.Need-returns
 unfolding two-bytes byte
 returns c =

@@ -13,10 +13,6 @@ use borrow.Author.Needs.{needs}
 use native.Mathlib.Omega.{arith}
 use Rattle.hand.proofs.cheapest_total.Statement.{statement}
 use Rattle.hand.proofs.cheapest_total.Tie as tie
-use Rattle.hand.proofs.cheapest_total.Reads as reads
-use Rattle.hand.proofs.cheapest_total.Lts as lts
-use Rattle.hand.proofs.cost_on_all.Reads as cost-on-all-reads
-use Rattle.hand.proofs.lowest_of.Reads as lowest-of-reads
 
 abbrev Inv-loop : tie.InvT-loop
 Inv-loop s v total₀ i₀ total i = (i ≤ v .tasks) × (total ≡ sum i (lowest-cost (workflow-of s v))) × (total ≤ cost-most * i)
@@ -24,16 +20,13 @@ Inv-loop s v total₀ i₀ total i = (i ≤ v .tasks) × (total ≡ sum i (lowes
 abbrev μ-loop : tie.MeasureT-loop
 μ-loop s v total₀ i₀ total i = v .tasks - i
 
--- src/lib.rt:142:5
 loop-holds : tie.Need-loop-holds Inv-loop μ-loop
 unfolding sum
 loop-holds c = (omega arith, refl, omega arith)
 
--- src/lib.rt:143:21
 cost-on-all-requires : tie.Need-cost-on-all-requires Inv-loop μ-loop
 cost-on-all-requires c κs = search needs
 
--- src/lib.rt:144:25
 lowest-of-requires : tie.Need-lowest-of-requires Inv-loop μ-loop
 unfolding workflow
 lowest-of-requires c κs =
@@ -56,7 +49,6 @@ lowest-here c =
     let lowest = c .lowest-of .ensures ∙ lowest-filled _ range i (c .before .before .cost-on-all .ensures) in
     (lowest, omega (arith, lowest, lowest-cost-at-most _ range i))
 
--- src/lib.rt:144:17
 add-total : tie.Need-add-total Inv-loop μ-loop
 unfolding workflow
 add-total c =
@@ -64,22 +56,18 @@ add-total c =
     let pre = c .before .before .before .before .before .before .before .pre in
     omega (arith, lowest-here c .1, view-in-range (a .s .now) (a .v) pre .tasks-in)
 
--- src/lib.rt:145:9
 add-i : tie.Need-add-i Inv-loop μ-loop
 add-i c = search needs
 
--- src/lib.rt:142:5
 loop-less : tie.Need-loop-less Inv-loop μ-loop
 loop-less c = search needs
 
--- src/lib.rt:142:5
 loop-again : tie.Need-loop-again Inv-loop μ-loop
 loop-again c =
     let loop = c .before .before .before .before .before .loop in
     let (lowest, few) = lowest-here c in
     (omega arith, sum-next (loop .i) _ (loop .inv .1) (ap (λ (x : ℕ). loop .total + x) lowest), omega arith)
 
--- src/lib.rt:136:1
 returns : tie.Need-returns Inv-loop μ-loop
 unfolding workflow cheapest-total
 returns c =

@@ -12,10 +12,6 @@ use borrow.Author.Needs.{needs}
 use native.Mathlib.Omega.{arith}
 use Rattle.hand.proofs.cost_on_all.Statement.{statement}
 use Rattle.hand.proofs.cost_on_all.Tie as tie
-use Rattle.hand.proofs.cost_on_all.Reads as reads
-use Rattle.hand.proofs.cost_on_all.Lts as lts
-use Rattle.lookup.proofs.minutes.Reads as minutes-reads
-use Rattle.lookup.proofs.price.Reads as price-reads
 
 abbrev Inv-loop : tie.InvT-loop
 Inv-loop s v task all₀ j₀ all j = (j ≤ v .processors) × Filled j (cost (workflow-of s v) task) all
@@ -23,7 +19,6 @@ Inv-loop s v task all₀ j₀ all j = (j ≤ v .processors) × Filled j (cost (w
 abbrev μ-loop : tie.MeasureT-loop
 μ-loop s v task all₀ j₀ all j = v .processors - j
 
--- src/lib.rt:114:5
 loop-holds : tie.Need-loop-holds Inv-loop μ-loop
 loop-holds c = (omega arith, filled-none _)
 
@@ -34,35 +29,27 @@ processor-below c =
     let pre = c .before .before .before .before .pre in
     omega (arith, view-in-range (a .s .now) (a .v) (pre .0) .processors-in)
 
--- src/lib.rt:115:18
 minutes-requires : tie.Need-minutes-requires Inv-loop μ-loop
 minutes-requires c κs = search needs
 
--- src/lib.rt:115:51
 price-requires : tie.Need-price-requires Inv-loop μ-loop
 price-requires c κs = search needs
 
--- src/lib.rt:115:18
 mul-all : tie.Need-mul-all Inv-loop μ-loop
 mul-all c = omega (arith, mul-le-mul (c .before .minutes .ensures .2) (c .price .ensures .1))
 
--- src/lib.rt:115:9
 mul-all-2 : tie.Need-mul-all-2 Inv-loop μ-loop
 mul-all-2 c = omega (arith, processor-below (c .before .before))
 
--- src/lib.rt:115:9
 array-write-all : tie.Need-array-write-all Inv-loop μ-loop
 array-write-all c = processor-below (c .before .before)
 
--- src/lib.rt:116:9
 add-j : tie.Need-add-j Inv-loop μ-loop
 add-j c = search needs
 
--- src/lib.rt:114:5
 loop-less : tie.Need-loop-less Inv-loop μ-loop
 loop-less c = search needs
 
--- src/lib.rt:114:5
 loop-again : tie.Need-loop-again Inv-loop μ-loop
 unfolding cost
 loop-again c =
@@ -70,7 +57,6 @@ loop-again c =
     let here = ap₂ _*_ (c .before .minutes .ensures .0) (c .price .ensures .0) in
     (omega arith, filled-more (loop .inv .1) (processor-below (c .before .before)) here)
 
--- src/lib.rt:107:1
 returns : tie.Need-returns Inv-loop μ-loop
 returns c =
     let a = c .before .before .before .before .args in

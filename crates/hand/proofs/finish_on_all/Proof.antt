@@ -14,10 +14,6 @@ use borrow.Author.Needs.{needs}
 use native.Mathlib.Omega.{arith}
 use Rattle.hand.proofs.finish_on_all.Statement.{statement}
 use Rattle.hand.proofs.finish_on_all.Tie as tie
-use Rattle.hand.proofs.finish_on_all.Reads as reads
-use Rattle.hand.proofs.finish_on_all.Lts as lts
-use Rattle.hand.proofs.start_on.Reads as start-on-reads
-use Rattle.lookup.proofs.minutes.Reads as minutes-reads
 
 abbrev Inv-loop : tie.InvT-loop
 Inv-loop s v ready until task all₀ j₀ all j = (j ≤ v .processors) × Filled j (finish-by (workflow-of s v) (at ready) (kept-busy until) task) all
@@ -25,7 +21,6 @@ Inv-loop s v ready until task all₀ j₀ all j = (j ≤ v .processors) × Fille
 abbrev μ-loop : tie.MeasureT-loop
 μ-loop s v ready until task all₀ j₀ all j = v .processors - j
 
--- src/lib.rt:98:5
 loop-holds : tie.Need-loop-holds Inv-loop μ-loop
 loop-holds c = (omega arith, filled-none _)
 
@@ -42,23 +37,18 @@ finish-here :
     ≡ finish-by (workflow-of (a .s .now) (a .v)) (at (a .ready .now)) (kept-busy (a .until .now)) (a .task) (c .before .before .before .before .before .loop .j)
 finish-here c = finish-is _ _ _ _ _ (c .before .before .minutes .ensures .0) (c .start-on .ensures)
 
--- src/lib.rt:99:13
 minutes-requires : tie.Need-minutes-requires Inv-loop μ-loop
 minutes-requires c κs = search needs
 
--- src/lib.rt:100:37
 mul-start-on : tie.Need-mul-start-on Inv-loop μ-loop
 mul-start-on c = omega (arith, processor-below (c .before))
 
--- src/lib.rt:100:37
 element-copy-out-start-on : tie.Need-element-copy-out-start-on Inv-loop μ-loop
 element-copy-out-start-on c = processor-below (c .before)
 
--- src/lib.rt:100:18
 start-on-requires : tie.Need-start-on-requires Inv-loop μ-loop
 start-on-requires c κs = processor-below (c .before .before)
 
--- src/lib.rt:100:18
 add-all : tie.Need-add-all Inv-loop μ-loop
 add-all c =
     let a = c .before .before .before .before .before .before .before .args in
@@ -66,27 +56,21 @@ add-all c =
     let range = view-in-range (a .s .now) (a .v) (pre .0) in
     omega (arith, finish-here c, finish-at-most _ range (a .task) (at (a .ready .now)) (a .until .now) (pre .1 .1) (pre .1 .2) (c .before .before .before .before .before .loop .j))
 
--- src/lib.rt:100:9
 mul-all : tie.Need-mul-all Inv-loop μ-loop
 mul-all c = omega (arith, processor-below (c .before .before .before))
 
--- src/lib.rt:100:9
 array-write-all : tie.Need-array-write-all Inv-loop μ-loop
 array-write-all c = processor-below (c .before .before .before)
 
--- src/lib.rt:101:9
 add-j : tie.Need-add-j Inv-loop μ-loop
 add-j c = search needs
 
--- src/lib.rt:98:5
 loop-less : tie.Need-loop-less Inv-loop μ-loop
 loop-less c = search needs
 
--- src/lib.rt:98:5
 loop-again : tie.Need-loop-again Inv-loop μ-loop
 loop-again c = (omega arith, filled-more (c .before .before .before .before .before .loop .inv .1) (processor-below (c .before .before .before)) (finish-here c))
 
--- src/lib.rt:91:1
 returns : tie.Need-returns Inv-loop μ-loop
 returns c =
     let loop = c .before .before .loop in

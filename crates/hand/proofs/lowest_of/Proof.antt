@@ -8,9 +8,6 @@ use borrow.Author.Needs.{needs}
 use native.Mathlib.Omega.{arith}
 use Rattle.hand.proofs.lowest_of.Statement.{statement}
 use Rattle.hand.proofs.lowest_of.Tie as tie
-use Rattle.hand.proofs.lowest_of.Reads as reads
-use Rattle.hand.proofs.lowest_of.Lts as lts
-use Rattle.numbers.proofs.smaller.Reads as smaller-reads
 
 abbrev Inv-loop : tie.InvT-loop
 Inv-loop m all low₀ j₀ low j = (j ≤ m) × (low ≡ lowest j (at all))
@@ -18,42 +15,33 @@ Inv-loop m all low₀ j₀ low j = (j ≤ m) × (low ≡ lowest j (at all))
 abbrev μ-loop : tie.MeasureT-loop
 μ-loop m all low₀ j₀ low j = m - j
 
--- src/lib.rt:126:19
 element-copy-out-low : tie.Need-element-copy-out-low Inv-loop μ-loop
 element-copy-out-low c = search needs
 
--- src/lib.rt:128:5
 loop-holds : tie.Need-loop-holds Inv-loop μ-loop
 unfolding lowest
 loop-holds c = (c .before .pre .0, omega arith)
 
--- src/lib.rt:129:37
 mul-smaller : tie.Need-mul-smaller Inv-loop μ-loop
 mul-smaller c = search needs
 
--- src/lib.rt:129:37
 element-copy-out-smaller : tie.Need-element-copy-out-smaller Inv-loop μ-loop
 element-copy-out-smaller c = search needs
 
--- src/lib.rt:129:9
 smaller-requires : tie.Need-smaller-requires Inv-loop μ-loop
 smaller-requires c κs = search needs
 
--- src/lib.rt:130:9
 add-j : tie.Need-add-j Inv-loop μ-loop
 add-j c = search needs
 
--- src/lib.rt:128:5
 loop-less : tie.Need-loop-less Inv-loop μ-loop
 loop-less c = search needs
 
--- src/lib.rt:128:5
 loop-again : tie.Need-loop-again Inv-loop μ-loop
 loop-again c =
     let loop = c .before .before .before .loop in
     (omega arith, lowest-next (loop .j) _ (loop .inv .1) (c .smaller .ensures))
 
--- src/lib.rt:122:1
 returns : tie.Need-returns Inv-loop μ-loop
 returns c =
     let a = c .before .before .before .args in

@@ -9,11 +9,6 @@ use Rattle.hand.specs.ReadyLaws.{ReadyFrom, ready-from-end, ready-from-l
 use native.Mathlib.Omega.{arith}
 use Rattle.hand.proofs.ready_on_all.Statement.{statement}
 use Rattle.hand.proofs.ready_on_all.Tie as tie
-use Rattle.hand.proofs.ready_on_all.Reads as reads
-use Rattle.hand.proofs.ready_on_all.Lts as lts
-use Rattle.hand.proofs.wait_for.Reads as wait-for-reads
-use Rattle.lookup.proofs.from.Reads as from-reads
-use Rattle.lookup.proofs.transfer.Reads as transfer-reads
 
 abbrev Inv-loop : tie.InvT-loop
 Inv-loop s v last before sits ends task all₀ next₀ all next =
@@ -23,21 +18,18 @@ Inv-loop s v last before sits ends task all₀ next₀ all next =
 abbrev μ-loop : tie.MeasureT-loop
 μ-loop s v last before sits ends task all₀ next₀ all next = next
 
--- src/lib.rt:64:20
 mul-next : tie.Need-mul-next Inv-loop μ-loop
 unfolding workflow
 mul-next c =
     let a = c .before .args in
     omega (arith, view-in-range (a .s .now) (a .v) (c .before .pre .0) .tasks-in)
 
--- src/lib.rt:64:20
 element-copy-out-next : tie.Need-element-copy-out-next Inv-loop μ-loop
 unfolding workflow
 element-copy-out-next c =
     let a = c .before .args in
     omega (arith, view-in-range (a .s .now) (a .v) (c .before .pre .0) .tasks-in)
 
--- src/lib.rt:64:20
 cast-next : tie.Need-cast-next Inv-loop μ-loop
 unfolding workflow
 cast-next c =
@@ -45,7 +37,6 @@ cast-next c =
     let pre = c .before .before .pre in
     omega (arith, pre .1 .1 .last-into (a .task) .within, view-in-range (a .s .now) (a .v) (pre .0) .edges-in)
 
--- src/lib.rt:65:5
 loop-holds : tie.Need-loop-holds Inv-loop μ-loop
 unfolding workflow
 loop-holds c =
@@ -53,11 +44,9 @@ loop-holds c =
     let last = c .before .before .pre .1 .1 .last-into (a .task) in
     (last .within, λ some. last .leads _ (omega arith), ready-from-last _ _ _ _ last (ready-from-end _ _ _ _ _))
 
--- src/lib.rt:66:17
 sub-e : tie.Need-sub-e Inv-loop μ-loop
 sub-e c = omega arith
 
--- src/lib.rt:67:13
 from-requires : tie.Need-from-requires Inv-loop μ-loop
 from-requires c κs = (c .before .before .before .before .pre .0, omega arith)
 
@@ -67,52 +56,42 @@ from-below c =
     let a = c .before .before .before .before .before .args in
     omega (arith, c .from .ensures .1, view-in-range (a .s .now) (a .v) (c .before .before .before .before .before .pre .0) .tasks-in)
 
--- src/lib.rt:68:20
 mul-here : tie.Need-mul-here Inv-loop μ-loop
 mul-here c = omega (arith, from-below c)
 
--- src/lib.rt:68:20
 element-copy-out-here : tie.Need-element-copy-out-here Inv-loop μ-loop
 element-copy-out-here c = from-below c
 
--- src/lib.rt:72:13
 mul-wait-for : tie.Need-mul-wait-for Inv-loop μ-loop
 mul-wait-for c = omega (arith, from-below (c .before .before))
 
--- src/lib.rt:72:13
 element-copy-out-wait-for : tie.Need-element-copy-out-wait-for Inv-loop μ-loop
 element-copy-out-wait-for c = from-below (c .before .before)
 
--- src/lib.rt:74:20
 transfer-requires : tie.Need-transfer-requires Inv-loop μ-loop
 transfer-requires c κs = (c .before .before .before .before .before .before .before .before .pre .0, omega arith)
 
--- src/lib.rt:74:13
 add-wait-for : tie.Need-add-wait-for Inv-loop μ-loop
 add-wait-for c = omega (arith, c .before .before .before .before .before .before .before .before .before .pre .1 .2 (c .before .before .before .before .from .result), c .transfer .ensures .1)
 
--- src/lib.rt:69:9
 wait-for-requires : tie.Need-wait-for-requires Inv-loop μ-loop
 unfolding workflow
 wait-for-requires c κs =
     let a = c .before .before .before .before .before .before .before .before .before .args in
     (view-in-range (a .s .now) (a .v) (c .before .before .before .before .before .before .before .before .before .pre .0) .processors-in .to-high, c .before .before .before .before .before .before .loop .inv .2 .size)
 
--- src/lib.rt:76:16
 mul-next-2 : tie.Need-mul-next-2 Inv-loop μ-loop
 unfolding workflow
 mul-next-2 c =
     let a = c .before .before .before .before .before .before .before .before .before .before .args in
     omega (arith, view-in-range (a .s .now) (a .v) (c .before .before .before .before .before .before .before .before .before .before .pre .0) .edges-in)
 
--- src/lib.rt:76:16
 element-copy-out-next-2 : tie.Need-element-copy-out-next-2 Inv-loop μ-loop
 unfolding workflow
 element-copy-out-next-2 c =
     let a = c .before .before .before .before .before .before .before .before .before .before .args in
     omega (arith, view-in-range (a .s .now) (a .v) (c .before .before .before .before .before .before .before .before .before .before .pre .0) .edges-in)
 
--- src/lib.rt:76:16
 cast-next-2 : tie.Need-cast-next-2 Inv-loop μ-loop
 unfolding workflow
 cast-next-2 c =
@@ -121,14 +100,12 @@ cast-next-2 c =
     let e = c .before .before .before .before .before .before .before .before .loop .next - 1 in
     omega (arith, pre .1 .1 .before-into e (omega arith) .within, view-in-range (a .s .now) (a .v) (pre .0) .edges-in)
 
--- src/lib.rt:65:5
 loop-less : tie.Need-loop-less Inv-loop μ-loop
 unfolding workflow
 loop-less c =
     let e = c .before .before .before .before .before .before .before .before .loop .next - 1 in
     omega (arith, c .before .before .before .before .before .before .before .before .before .before .before .pre .1 .1 .before-into e (omega arith) .within)
 
--- src/lib.rt:65:5
 loop-again : tie.Need-loop-again Inv-loop μ-loop
 unfolding workflow
 loop-again c =
@@ -143,7 +120,6 @@ loop-again c =
           (ready-from-more _ _ _ _ leads (c .before .before .before .before .before .before .from .ensures .0) (c .before .before .transfer .ensures .0) (rw place (loop .inv .2)) (c .before .wait-for .ensures)),
     )
 
--- src/lib.rt:50:1
 returns : tie.Need-returns Inv-loop μ-loop
 returns c = ready-from-start _ _ _ _ (omega arith) (c .before .loop .inv .2)
 

@@ -12,11 +12,6 @@ use borrow.Author.Needs.{needs}
 use native.Mathlib.Omega.{arith}
 use Rattle.hand.proofs.row_for.Statement.{statement}
 use Rattle.hand.proofs.row_for.Tie as tie
-use Rattle.hand.proofs.row_for.Reads as reads
-use Rattle.hand.proofs.row_for.Lts as lts
-use Rattle.choosing.proofs.choose.Reads as choose-reads
-use Rattle.hand.proofs.finish_on_all.Reads as finish-on-all-reads
-use Rattle.lookup.proofs.minutes.Reads as minutes-reads
 
 -- The row on the processor that is taken.
 chosen-row :
@@ -42,11 +37,9 @@ processor-below c =
     let pre = c .before .before .before .before .before .before .before .pre in
     omega (arith, chosen-row c .processor, view-in-range (a .s .now) (a .v) (pre .0) .processors-in)
 
--- src/lib.rt:166:20
 finish-on-all-requires : tie.Need-finish-on-all-requires
 finish-on-all-requires c κs = search needs
 
--- src/lib.rt:167:9
 choose-requires : tie.Need-choose-requires
 unfolding workflow
 choose-requires c κs =
@@ -60,15 +53,12 @@ choose-requires c κs =
     (pre .1 .1 .1)
     (pre .1 .1 .2)
 
--- src/lib.rt:168:22
 enum-known-choice : tie.Need-enum-known-choice
 enum-known-choice c = search needs
 
--- src/lib.rt:169:9
 enum-told : tie.Need-enum-told
 enum-told c = search needs
 
--- src/lib.rt:169:9
 returns : tie.Need-returns
 unfolding workflow
 returns c =
@@ -79,34 +69,27 @@ returns c =
     let choose = c .before .before .choose in
     no-row _ range (a .task) _ _ (a .rb) (a .rcb) (pre .1 .1 .0) finishes (choose .ensures) (c .enum-told .given .1)
 
--- src/lib.rt:171:18
 mul-finish : tie.Need-mul-finish
 mul-finish c = omega (arith, processor-below c)
 
--- src/lib.rt:171:18
 array-read-finish : tie.Need-array-read-finish
 array-read-finish c = processor-below c
 
--- src/lib.rt:172:16
 mul-cost : tie.Need-mul-cost
 mul-cost c = omega (arith, processor-below c)
 
--- src/lib.rt:172:16
 element-copy-out-cost : tie.Need-element-copy-out-cost
 element-copy-out-cost c = processor-below c
 
--- src/lib.rt:175:25
 minutes-requires : tie.Need-minutes-requires
 unfolding workflow
 minutes-requires c κs =
     let pre = c .before .before .before .before .before .before .before .before .pre in
     (pre .0, (pre .1 .0 .0, chosen-row (c .before) .processor))
 
--- src/lib.rt:175:16
 sub-t22 : tie.Need-sub-t22
 sub-t22 c = omega (arith, chosen-row (c .before .before) .minutes-in-finish, c .minutes .ensures .0)
 
--- src/lib.rt:151:1
 returns-2 : tie.Need-returns-2
 returns-2 c = rw (c .minutes .ensures .0) (chosen-row (c .before .before) .row-is)
 

@@ -6,23 +6,16 @@ use Rattle.hand.specs.Busy.{kept-busy}
 use borrow.Author.Needs.{needs}
 use Rattle.hand.proofs.start_on.Statement.{statement}
 use Rattle.hand.proofs.start_on.Tie as tie
-use Rattle.hand.proofs.start_on.Reads as reads
-use Rattle.hand.proofs.start_on.Lts as lts
-use Rattle.numbers.proofs.larger.Reads as larger-reads
 
--- src/lib.rt:86:18
 mul-latest : tie.Need-mul-latest
 mul-latest c = search needs
 
--- src/lib.rt:86:18
 element-copy-out-latest : tie.Need-element-copy-out-latest
 element-copy-out-latest c = search needs
 
--- src/lib.rt:87:5
 larger-requires : tie.Need-larger-requires
 larger-requires c κs = search needs
 
--- src/lib.rt:82:1
 returns : tie.Need-returns
 unfolding kept-busy
 returns c =

@@ -8,10 +8,6 @@ use borrow.Author.Needs.{needs}
 use native.Mathlib.Omega.{arith}
 use Rattle.hand.proofs.wait_for.Statement.{statement}
 use Rattle.hand.proofs.wait_for.Tie as tie
-use Rattle.hand.proofs.wait_for.Reads as reads
-use Rattle.hand.proofs.wait_for.Lts as lts
-use Rattle.numbers.proofs.either.Reads as either-reads
-use Rattle.numbers.proofs.larger.Reads as larger-reads
 
 abbrev Inv-loop : tie.InvT-loop
 Inv-loop ready₀ m on here across j₀ ready j = (j ≤ m) × WaitedFor j on here across ready₀ ready
@@ -19,43 +15,33 @@ Inv-loop ready₀ m on here across j₀ ready j = (j ≤ m) × WaitedFor j on he
 abbrev μ-loop : tie.MeasureT-loop
 μ-loop ready₀ m on here across j₀ ready j = m - j
 
--- src/lib.rt:43:5
 loop-holds : tie.Need-loop-holds Inv-loop μ-loop
 loop-holds c = (omega arith, waited-none)
 
--- src/lib.rt:44:36
 mul-larger : tie.Need-mul-larger Inv-loop μ-loop
 mul-larger c = search needs
 
--- src/lib.rt:44:36
 element-copy-out-larger : tie.Need-element-copy-out-larger Inv-loop μ-loop
 element-copy-out-larger c = search needs
 
--- src/lib.rt:44:46
 either-requires : tie.Need-either-requires Inv-loop μ-loop
 either-requires c κs = search needs
 
--- src/lib.rt:44:20
 larger-requires : tie.Need-larger-requires Inv-loop μ-loop
 larger-requires c κs = search needs
 
--- src/lib.rt:44:9
 mul-ready : tie.Need-mul-ready Inv-loop μ-loop
 mul-ready c = search needs
 
--- src/lib.rt:44:9
 element-write-ready : tie.Need-element-write-ready Inv-loop μ-loop
 element-write-ready c = search needs
 
--- src/lib.rt:45:9
 add-j : tie.Need-add-j Inv-loop μ-loop
 add-j c = search needs
 
--- src/lib.rt:43:5
 loop-less : tie.Need-loop-less Inv-loop μ-loop
 loop-less c = search needs
 
--- src/lib.rt:43:5
 loop-again : tie.Need-loop-again Inv-loop μ-loop
 loop-again c =
     let pre = c .before .before .before .before .before .pre in
@@ -63,7 +49,6 @@ loop-again c =
     let larger = c .larger .ensures ∙ ap (max (at (loop .ready) (loop .j))) (c .before .either .ensures) in
     (omega arith, waited-more (loop .inv .1) (omega (arith, pre .1)) larger)
 
--- src/lib.rt:38:1
 returns : tie.Need-returns Inv-loop μ-loop
 returns c =
     let a = c .before .before .args in

@@ -5,25 +5,17 @@ use Rattle.decimals.specs.Wrote.{wrote-then, room-first, room-next}
 use borrow.Author.Needs.{needs}
 use Rattle.lines.proofs.put_row.Statement.{statement}
 use Rattle.lines.proofs.put_row.Tie as tie
-use Rattle.lines.proofs.put_row.Reads as reads
-use Rattle.lines.proofs.put_row.Lts as lts
-use Rattle.decimals.proofs.put_byte.Reads as put-byte-reads
-use Rattle.decimals.proofs.put_bytes.Reads as put-bytes-reads
-use Rattle.decimals.proofs.put_four.Reads as put-four-reads
 
--- src/lib.rt:49:9
 put-bytes-requires : tie.Need-put-bytes-requires
 unfolding row-line line bytes four-numbers
 put-bytes-requires c κs = room-first _ (c .before .before .before .pre)
 
--- src/lib.rt:50:9
 put-byte-requires : tie.Need-put-byte-requires
 unfolding row-line line bytes four-numbers
 put-byte-requires c κs =
     let named = c .before .before .before in
     room-first _ (room-next (named .before .before .before .before .pre) (named .put-bytes .ensures))
 
--- src/lib.rt:51:5
 put-four-requires : tie.Need-put-four-requires
 unfolding row-line line bytes four-numbers
 put-four-requires c κs =
@@ -31,11 +23,9 @@ put-four-requires c κs =
     let named = parted .before .before .before .before in
     room-next (room-next (named .before .before .before .before .pre) (named .put-bytes .ensures)) (parted .put-byte .ensures)
 
--- src/lib.rt:35:1
 same-length : tie.Need-same-length
 same-length c = search needs
 
--- src/lib.rt:35:1
 returns : tie.Need-returns
 unfolding row-line line bytes four-numbers
 returns c =

@@ -13,10 +13,6 @@ use borrow.Author.Needs.{needs}
 use native.Mathlib.Omega.{arith}
 use Rattle.lines.proofs.put_rows.Statement.{statement}
 use Rattle.lines.proofs.put_rows.Tie as tie
-use Rattle.lines.proofs.put_rows.Reads as reads
-use Rattle.lines.proofs.put_rows.Lts as lts
-use Rattle.lookup.proofs.label_of.Reads as label-of-reads
-use Rattle.lines.proofs.put_row.Reads as put-row-reads
 
 abbrev Inv-loop : tie.InvT-loop
 Inv-loop out₀ at s v n processors starts finishes costs end₀ i₀ out end i =
@@ -39,67 +35,52 @@ unfolding label
 name-is c =
     part-slice (c .before .before .before .before .before .args .s .now) (c .before .before .loop .i) (c .label-of .result) (c .label-of .ensures)
 
--- src/lib.rt:77:5
 loop-holds : tie.Need-loop-holds Inv-loop μ-loop
 unfolding lines
 loop-holds c =
     let start = c .before .before in
     (omega (arith, start .pre .1 .0, read-is-good _ (start .pre .0) .tasks-in .to-high), omega arith, wrote-nothing _ _)
 
--- src/lib.rt:78:13
 label-of-requires : tie.Need-label-of-requires Inv-loop μ-loop
 label-of-requires c κs =
     let pre = c .before .before .before .before .pre in (pre .0, omega (arith, pre .1 .0))
 
--- src/lib.rt:81:20
 add-past : tie.Need-add-past Inv-loop μ-loop
 add-past c = omega (arith, label-inside c)
 
--- src/lib.rt:85:13
 sub-put-row : tie.Need-sub-put-row Inv-loop μ-loop
 sub-put-row c = search needs
 
--- src/lib.rt:85:13
 part-put-row-start : tie.Need-part-put-row-start Inv-loop μ-loop
 part-put-row-start c = search needs
 
--- src/lib.rt:85:13
 part-put-row-end : tie.Need-part-put-row-end Inv-loop μ-loop
 part-put-row-end c = omega (arith, label-inside (c .before))
 
--- src/lib.rt:86:13
 mul-put-row : tie.Need-mul-put-row Inv-loop μ-loop
 mul-put-row c = search needs
 
--- src/lib.rt:86:13
 element-copy-out-put-row : tie.Need-element-copy-out-put-row Inv-loop μ-loop
 element-copy-out-put-row c = search needs
 
--- src/lib.rt:87:13
 mul-put-row-2 : tie.Need-mul-put-row-2 Inv-loop μ-loop
 mul-put-row-2 c = search needs
 
--- src/lib.rt:87:13
 element-copy-out-put-row-2 : tie.Need-element-copy-out-put-row-2 Inv-loop μ-loop
 element-copy-out-put-row-2 c = search needs
 
--- src/lib.rt:88:13
 mul-put-row-3 : tie.Need-mul-put-row-3 Inv-loop μ-loop
 mul-put-row-3 c = search needs
 
--- src/lib.rt:88:13
 element-copy-out-put-row-3 : tie.Need-element-copy-out-put-row-3 Inv-loop μ-loop
 element-copy-out-put-row-3 c = search needs
 
--- src/lib.rt:89:13
 mul-put-row-4 : tie.Need-mul-put-row-4 Inv-loop μ-loop
 mul-put-row-4 c = search needs
 
--- src/lib.rt:89:13
 element-copy-out-put-row-4 : tie.Need-element-copy-out-put-row-4 Inv-loop μ-loop
 element-copy-out-put-row-4 c = search needs
 
--- src/lib.rt:82:9
 put-row-requires : tie.Need-put-row-requires Inv-loop μ-loop
 unfolding column-line
 put-row-requires c κs =
@@ -109,15 +90,12 @@ put-row-requires c κs =
     let loop = at-loop .loop in
     rw (name-is at-label) (room-line _ (start .args .n) (start .pre .1 .1) (loop .i) (omega arith) (loop .inv .2))
 
--- src/lib.rt:91:9
 add-i : tie.Need-add-i Inv-loop μ-loop
 add-i c = search needs
 
--- src/lib.rt:77:5
 loop-less : tie.Need-loop-less Inv-loop μ-loop
 loop-less c = search needs
 
--- src/lib.rt:77:5
 loop-again : tie.Need-loop-again Inv-loop μ-loop
 unfolding lines column-line
 loop-again c =
@@ -126,14 +104,12 @@ loop-again c =
     let loop = at-label .before .before .loop in
     (loop .inv .0, omega arith, rw (add-one (loop .i)) (wrote-then (loop .inv .2) (rw (name-is at-label) at (at-row .put-row .ensures))))
 
--- src/lib.rt:55:1
 same-length : tie.Need-same-length Inv-loop μ-loop
 same-length c =
     let at-loop = c .before in
     let start = at-loop .before .before .before in
     wrote-length (room-lines _ (start .args .n) (start .pre .1 .1) (at-loop .loop .i) (at-loop .loop .inv .1)) (at-loop .loop .inv .2)
 
--- src/lib.rt:55:1
 returns : tie.Need-returns Inv-loop μ-loop
 returns c =
     let at-loop = c .before in

@@ -10,9 +10,6 @@ use borrow.Author.Needs.{needs}
 use native.Mathlib.Omega.{arith}
 use Rattle.links.proofs.link_all.Statement.{statement}
 use Rattle.links.proofs.link_all.Tie as tie
-use Rattle.links.proofs.link_all.Reads as reads
-use Rattle.links.proofs.link_all.Lts as lts
-use Rattle.lookup.proofs.to.Reads as to-reads
 
 abbrev Inv-loop : tie.InvT-loop
 Inv-loop s v last₀ before₀ e₀ last before e = (e ≤ v .edges) × Linked (workflow-of s v) e last before
@@ -20,11 +17,9 @@ Inv-loop s v last₀ before₀ e₀ last before e = (e ≤ v .edges) × Linked (
 abbrev μ-loop : tie.MeasureT-loop
 μ-loop s v last₀ before₀ e₀ last before e = v .edges - e
 
--- src/lib.rt:21:5
 loop-holds : tie.Need-loop-holds Inv-loop μ-loop
 loop-holds c = (omega arith, linked-first _)
 
--- src/lib.rt:22:13
 to-requires : tie.Need-to-requires Inv-loop μ-loop
 to-requires c κs = search needs
 
@@ -36,50 +31,39 @@ in-arrays c =
     let range = view-in-range (start .args .s .now) (start .args .v) (start .pre) in
     (omega (arith, range .edges-in), omega (arith, c .to .ensures .1, range .tasks-in))
 
--- src/lib.rt:23:21
 mul-before : tie.Need-mul-before Inv-loop μ-loop
 mul-before c = omega (arith, in-arrays c)
 
--- src/lib.rt:23:21
 array-read-before : tie.Need-array-read-before Inv-loop μ-loop
 array-read-before c = in-arrays c .1
 
--- src/lib.rt:23:9
 mul-before-2 : tie.Need-mul-before-2 Inv-loop μ-loop
 mul-before-2 c = omega (arith, in-arrays c)
 
--- src/lib.rt:23:9
 array-write-before : tie.Need-array-write-before Inv-loop μ-loop
 array-write-before c = in-arrays c .0
 
--- src/lib.rt:24:9
 add-e : tie.Need-add-e Inv-loop μ-loop
 add-e c = search needs
 
--- src/lib.rt:25:20
 cast-last : tie.Need-cast-last Inv-loop μ-loop
 cast-last c = omega (arith, in-arrays c)
 
--- src/lib.rt:25:9
 mul-last : tie.Need-mul-last Inv-loop μ-loop
 mul-last c = omega (arith, in-arrays c)
 
--- src/lib.rt:25:9
 array-write-last : tie.Need-array-write-last Inv-loop μ-loop
 array-write-last c = in-arrays c .1
 
--- src/lib.rt:21:5
 loop-less : tie.Need-loop-less Inv-loop μ-loop
 loop-less c = search needs
 
--- src/lib.rt:21:5
 loop-again : tie.Need-loop-again Inv-loop μ-loop
 loop-again c =
     let loop = c .before .before .before .loop in
     let (edge, task) = in-arrays c in
     (omega arith, linked-next _ (loop .e) (loop .last) (loop .before) (loop .inv .1) edge (c .to .result) (sym (c .to .ensures .0)) task)
 
--- src/lib.rt:14:1
 returns : tie.Need-returns Inv-loop μ-loop
 unfolding workflow
 returns c =

@@ -10,8 +10,6 @@ use Rattle.reader.specs.Meaning.{meant-view}
 use native.Mathlib.Omega.{arith}
 use Rattle.lookup.proofs.edge_place.Statement.{statement}
 use Rattle.lookup.proofs.edge_place.Tie as tie
-use Rattle.lookup.proofs.edge_place.Reads as reads
-use Rattle.lookup.proofs.edge_place.Lts as lts
 
 -- The record lies inside the request.
 inside : (c : tie.Start) → let a = c .args in edge-place (meant-view (a .v)) (a .edge) + size E ≤ length (a .s .now)
@@ -19,17 +17,14 @@ inside c =
     let a = c .args in
     edge-inside (a .s .now) (meant-view (a .v)) (read-is-good _ (c .pre .0)) (a .edge) (c .pre .1)
 
--- src/lib.rt:46:18
 mul-result : tie.Need-mul-result
 unfolding edge-place size body
 mul-result c = omega (arith, inside c)
 
--- src/lib.rt:46:5
 add-result : tie.Need-add-result
 unfolding edge-place size body
 add-result c = omega (arith, inside (c .before))
 
--- src/lib.rt:41:1
 returns : tie.Need-returns
 unfolding edge-place size body
 returns c = (refl, inside (c .before))

@@ -9,21 +9,14 @@ use native.Mathlib.Omega.{arith}
 use borrow.Author.Needs.{needs}
 use Rattle.lookup.proofs.from.Statement.{statement}
 use Rattle.lookup.proofs.from.Tie as tie
-use Rattle.lookup.proofs.from.Reads as reads
-use Rattle.lookup.proofs.from.Lts as lts
-use Rattle.lookup.proofs.edge_place.Reads as edge-place-reads
-use Rattle.fields.proofs.field.Reads as field-reads
 
--- src/lib.rt:55:23
 edge-place-requires : tie.Need-edge-place-requires
 edge-place-requires c κs = search needs
 
--- src/lib.rt:55:5
 field-requires : tie.Need-field-requires
 unfolding size body
 field-requires c κs = omega (arith, c .edge-place .ensures .1)
 
--- src/lib.rt:50:1
 returns : tie.Need-returns
 unfolding workflow E-from
 returns c =

@@ -7,37 +7,28 @@ use native.Mathlib.Omega.{arith}
 use borrow.Author.Needs.{needs}
 use Rattle.lookup.proofs.label.Statement.{statement}
 use Rattle.lookup.proofs.label.Tie as tie
-use Rattle.lookup.proofs.label.Reads as reads
-use Rattle.lookup.proofs.label.Lts as lts
-use Rattle.lookup.proofs.label_part.Reads as label-part-reads
 
--- src/lib.rt:119:9
 label-part-requires : tie.Need-label-part-requires
 label-part-requires c κs = search needs
 
--- src/lib.rt:121:15
 add-end : tie.Need-add-end
 add-end c =
     let a = c .before .before .before .args in
     let label-part = c .before .label-part in
     omega (arith, part-inside (a .s .now) (a .task) (label-part .result) (label-part .ensures))
 
--- src/lib.rt:122:5
 sub-result : tie.Need-sub-result
 sub-result c = search needs
 
--- src/lib.rt:122:5
 part-result-start : tie.Need-part-result-start
 part-result-start c = search needs
 
--- src/lib.rt:122:5
 part-result-end : tie.Need-part-result-end
 part-result-end c =
     let a = c .before .before .before .args in
     let label-part = c .before .label-part in
     omega (arith, part-inside (a .s .now) (a .task) (label-part .result) (label-part .ensures))
 
--- src/lib.rt:114:1
 returns : tie.Need-returns
 returns c =
     let a = c .before .before .before .before .args in

@@ -14,12 +14,7 @@ use native.Mathlib.Omega.{arith}
 use borrow.Author.Needs.{needs}
 use Rattle.lookup.proofs.label_of.Statement.{statement}
 use Rattle.lookup.proofs.label_of.Tie as tie
-use Rattle.lookup.proofs.label_of.Reads as reads
-use Rattle.lookup.proofs.label_of.Lts as lts
-use Rattle.label.proofs.label_len.Reads as label-len-reads
-use Rattle.lookup.proofs.task_place.Reads as task-place-reads
 
--- src/lib.rt:88:17
 task-place-requires : tie.Need-task-place-requires
 task-place-requires c κs =
     let a = c .before .args in
@@ -33,7 +28,6 @@ task-place-requires c κs =
       ),
     )
 
--- src/lib.rt:88:17
 add-begin : tie.Need-add-begin
 unfolding size body
 add-begin c =
@@ -41,11 +35,9 @@ add-begin c =
     let pre = c .before .before .pre in
     omega (arith, c .task-place .ensures, task-inside (a .s .now) (meant-view (a .v)) (read-is-good _ (pre .0)) (a .task) (pre .1))
 
--- src/lib.rt:89:9
 label-len-requires : tie.Need-label-len-requires
 label-len-requires c κs = search needs
 
--- src/lib.rt:83:1
 returns : tie.Need-returns
 unfolding label-part label-place T-label
 returns c =

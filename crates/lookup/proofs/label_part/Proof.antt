@@ -7,31 +7,22 @@ use native.Mathlib.Omega.{arith}
 use borrow.Author.Needs.{needs}
 use Rattle.lookup.proofs.label_part.Statement.{statement}
 use Rattle.lookup.proofs.label_part.Tie as tie
-use Rattle.lookup.proofs.label_part.Reads as reads
-use Rattle.lookup.proofs.label_part.Lts as lts
-use Rattle.lookup.proofs.label_of.Reads as label-of-reads
-use Rattle.reader.proofs.read_request.Reads as read-request-reads
 
--- src/lib.rt:97:9
 read-request-requires : tie.Need-read-request-requires
 read-request-requires c κs = search needs
 
--- src/lib.rt:98:23
 enum-known-answer : tie.Need-enum-known-answer
 enum-known-answer c = search needs
 
--- src/lib.rt:99:9
 enum-told : tie.Need-enum-told
 enum-told c = search needs
 
--- src/lib.rt:99:9
 returns : tie.Need-returns
 returns c =
     let a = c .before .before .before .before .args in
     let read-request = c .before .before .read-request in
     sym (no-label-refused (a .s .now) (a .task) (sym (read-request .ensures) ∙ ap (meant-reading (a .s .now)) (c .enum-told .given .1)))
 
--- src/lib.rt:105:9
 returns-2 : tie.Need-returns-2
 returns-2 c =
     let a = c .before .before .before .before .before .before .before .args in
@@ -40,7 +31,6 @@ returns-2 c =
     let beyond : answer .given .0 .0 .tasks ≤ a .task = omega (arith, c .if1 .taken) in
     sym (no-label-beyond (a .s .now) (a .task) (sym (read-request .ensures) ∙ ap (meant-reading (a .s .now)) (answer .given .1)) beyond)
 
--- src/lib.rt:110:5
 label-of-requires : tie.Need-label-of-requires
 label-of-requires c κs =
     let a = c .before .before .before .before .before .before .before .args in
@@ -48,7 +38,6 @@ label-of-requires c κs =
     let answer = c .before .before .before .answer in
     (sym (read-request .ensures) ∙ ap (meant-reading (a .s .now)) (answer .given .1), omega (arith, c .if1 .left))
 
--- src/lib.rt:94:1
 returns-3 : tie.Need-returns-3
 returns-3 c = search needs
 

@@ -12,12 +12,7 @@ use Rattle.lookup.specs.Views.{view-in-range}
 use native.Mathlib.Omega.{arith}
 use Rattle.lookup.proofs.minutes.Statement.{statement}
 use Rattle.lookup.proofs.minutes.Tie as tie
-use Rattle.lookup.proofs.minutes.Reads as reads
-use Rattle.lookup.proofs.minutes.Lts as lts
-use Rattle.lookup.proofs.task_place.Reads as task-place-reads
-use Rattle.fields.proofs.two_bytes.Reads as two-bytes-reads
 
--- src/lib.rt:37:27
 task-place-requires : tie.Need-task-place-requires
 task-place-requires c κs =
     let pre = c .before .pre in
@@ -42,23 +37,18 @@ inside c =
     rw (c .task-place .ensures)
     (minutes-inside (a .s .now) (meant-view (a .v)) (read-is-good _ (start .pre .0)) (a .task) (a .processor) (start .pre .1 .0) (start .pre .1 .1))
 
--- src/lib.rt:37:55
 mul-two-bytes : tie.Need-mul-two-bytes
 mul-two-bytes c = omega (arith, inside c)
 
--- src/lib.rt:37:50
 add-two-bytes : tie.Need-add-two-bytes
 add-two-bytes c = omega (arith, inside c)
 
--- src/lib.rt:37:27
 add-two-bytes-2 : tie.Need-add-two-bytes-2
 add-two-bytes-2 c = omega (arith, inside c)
 
--- src/lib.rt:37:5
 two-bytes-requires : tie.Need-two-bytes-requires
 two-bytes-requires c κs = omega (arith, inside c)
 
--- src/lib.rt:32:1
 returns : tie.Need-returns
 unfolding workflow minutes-place W-minutes size body
 returns c =

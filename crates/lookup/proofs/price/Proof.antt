@@ -11,9 +11,6 @@ use Rattle.lookup.specs.Views.{view-in-range}
 use native.Mathlib.Omega.{arith}
 use Rattle.lookup.proofs.price.Statement.{statement}
 use Rattle.lookup.proofs.price.Tie as tie
-use Rattle.lookup.proofs.price.Reads as reads
-use Rattle.lookup.proofs.price.Lts as lts
-use Rattle.fields.proofs.field.Reads as field-reads
 
 -- The record lies inside the request.
 inside : (c : tie.Start) → let a = c .args in price-place (meant-view (a .v)) (a .processor) + size P ≤ length (a .s .now)
@@ -21,22 +18,18 @@ inside c =
     let a = c .args in
     price-inside (a .s .now) (meant-view (a .v)) (read-is-good _ (c .pre .0)) (a .processor) (c .pre .1)
 
--- src/lib.rt:28:37
 mul-field : tie.Need-mul-field
 unfolding price-place size body
 mul-field c = omega (arith, inside (c .before))
 
--- src/lib.rt:28:23
 add-field : tie.Need-add-field
 unfolding price-place size body
 add-field c = omega (arith, inside (c .before .before))
 
--- src/lib.rt:28:5
 field-requires : tie.Need-field-requires
 unfolding price-place size body
 field-requires c κs = omega (arith, inside (c .before .before))
 
--- src/lib.rt:23:1
 returns : tie.Need-returns
 unfolding P-price price-place size body
 returns c =

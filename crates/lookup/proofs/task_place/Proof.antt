@@ -6,28 +6,21 @@ use native.Mathlib.Omega.{arith}
 use borrow.Author.Needs.{needs}
 use Rattle.lookup.proofs.task_place.Statement.{statement}
 use Rattle.lookup.proofs.task_place.Tie as tie
-use Rattle.lookup.proofs.task_place.Reads as reads
-use Rattle.lookup.proofs.task_place.Lts as lts
 
--- src/lib.rt:23:23
 mul-stride : tie.Need-mul-stride
 mul-stride c = search needs
 
--- src/lib.rt:23:18
 add-stride : tie.Need-add-stride
 add-stride c = search needs
 
--- src/lib.rt:24:18
 mul-result : tie.Need-mul-result
 unfolding task-place size body
 mul-result c = omega (arith, c .before .pre .1)
 
--- src/lib.rt:24:5
 add-result : tie.Need-add-result
 unfolding task-place size body
 add-result c = omega (arith, c .before .before .pre .1)
 
--- src/lib.rt:19:1
 returns : tie.Need-returns
 unfolding task-place size body
 returns c = refl

@@ -9,21 +9,14 @@ use native.Mathlib.Omega.{arith}
 use borrow.Author.Needs.{needs}
 use Rattle.lookup.proofs.transfer.Statement.{statement}
 use Rattle.lookup.proofs.transfer.Tie as tie
-use Rattle.lookup.proofs.transfer.Reads as reads
-use Rattle.lookup.proofs.transfer.Lts as lts
-use Rattle.lookup.proofs.edge_place.Reads as edge-place-reads
-use Rattle.fields.proofs.two_bytes.Reads as two-bytes-reads
 
--- src/lib.rt:73:27
 edge-place-requires : tie.Need-edge-place-requires
 edge-place-requires c κs = search needs
 
--- src/lib.rt:73:5
 two-bytes-requires : tie.Need-two-bytes-requires
 unfolding size body
 two-bytes-requires c κs = omega (arith, c .edge-place .ensures .1)
 
--- src/lib.rt:68:1
 returns : tie.Need-returns
 unfolding workflow E-transfer
 returns c =

@@ -5,15 +5,11 @@ use Rattle.laws.specs.Method.{or-one-of-positive}
 use native.Mathlib.Omega.{arith}
 use Rattle.numbers.proofs.or_one.Statement.{statement}
 use Rattle.numbers.proofs.or_one.Tie as tie
-use Rattle.numbers.proofs.or_one.Reads as reads
-use Rattle.numbers.proofs.or_one.Lts as lts
 
--- src/lib.rt:27:1
 returns : tie.Need-returns
 unfolding or-one
 returns c = rw (c .if1 .taken)
 
--- src/lib.rt:27:1
 returns-2 : tie.Need-returns-2
 returns-2 c = sym (or-one-of-positive _ (omega arith))
 

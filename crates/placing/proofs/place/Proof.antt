@@ -24,16 +24,6 @@ use borrow.Author.Needs.{needs}
 use native.Mathlib.Omega.{arith}
 use Rattle.placing.proofs.place.Statement.{statement}
 use Rattle.placing.proofs.place.Tie as tie
-use Rattle.placing.proofs.place.Reads as reads
-use Rattle.placing.proofs.place.Lts as lts
-use Rattle.hand.proofs.cost_on_all.Reads as cost-on-all-reads
-use Rattle.hand.proofs.lowest_of.Reads as lowest-of-reads
-use Rattle.hand.proofs.ready_on_all.Reads as ready-on-all-reads
-use Rattle.hand.proofs.row_for.Reads as row-for-reads
-use Rattle.links.proofs.link_all.Reads as link-all-reads
-use Rattle.numbers.proofs.larger.Reads as larger-reads
-use Rattle.numbers.proofs.less.Reads as less-reads
-use Rattle.placing.proofs.next_task.Reads as next-task-reads
 
 -- The locals of a turn.
 abbrev kept-in : (sits starts ends costs : List ℕ) (placed : List Bool) (processors : Processors) (rb spent rcb length : ℕ) → State
@@ -61,18 +51,15 @@ abbrev μ-loop : tie.MeasureT-loop
     sits starts ends costs placed processors rb spent rcb length k =
     v .tasks - k
 
--- src/lib.rt:61:17
 link-all-requires : tie.Need-link-all-requires Inv-loop μ-loop
 link-all-requires c κs = c .before .pre .0
 
--- src/lib.rt:73:5
 loop-holds : tie.Need-loop-holds Inv-loop μ-loop
 unfolding workflow
 loop-holds c =
     let pre = c .before .before .pre in
     (omega arith, kept-first HBCS _ refl (pre .1 .1))
 
--- src/lib.rt:74:13
 next-task-requires : tie.Need-next-task-requires Inv-loop μ-loop
 unfolding workflow
 next-task-requires c κs =
@@ -145,25 +132,21 @@ turned c =
     let below = processor HBCS-chooses-among (in-range turn) kept (left turn) (next-is turn) all-ready to-come handed in
     (omega (arith, below, processors-in .to-high), kept-more HBCS-chooses-among (in-range turn) kept (left turn) (next-is turn) all-ready to-come handed)
 
--- src/lib.rt:75:24
 cost-on-all-requires : tie.Need-cost-on-all-requires Inv-loop μ-loop
 unfolding workflow
 cost-on-all-requires c κs =
     let start = c .before .before .before .before .before .before .before in
     (start .pre .0, task-below c)
 
--- src/lib.rt:76:13
 lowest-of-requires : tie.Need-lowest-of-requires Inv-loop μ-loop
 unfolding workflow
 lowest-of-requires c κs =
     let processors-in = in-range (c .before .before) .processors-in in
     (processors-in .from-low, processors-in .to-high)
 
--- src/lib.rt:77:15
 sub-rcb : tie.Need-sub-rcb Inv-loop μ-loop
 sub-rcb c = rcb-is c .0
 
--- src/lib.rt:78:21
 ready-on-all-requires : tie.Need-ready-on-all-requires Inv-loop μ-loop
 unfolding workflow
 ready-on-all-requires c κs =
@@ -171,7 +154,6 @@ ready-on-all-requires c κs =
     let kept = turn .before .before .before .before .loop .inv .1 in
     (turn .before .before .before .before .before .before .before .pre .0, (task-below turn, turn .before .before .before .before .before .link-all .ensures, ends-within (in-range turn) kept (left turn)))
 
--- src/lib.rt:79:13
 row-for-requires : tie.Need-row-for-requires Inv-loop μ-loop
 unfolding workflow
 row-for-requires c κs =
@@ -190,15 +172,12 @@ row-for-requires c κs =
       ),
     )
 
--- src/lib.rt:81:13
 enum-known-row : tie.Need-enum-known-row Inv-loop μ-loop
 enum-known-row c = search needs
 
--- src/lib.rt:88:26
 enum-told : tie.Need-enum-told Inv-loop μ-loop
 enum-told c = search needs
 
--- src/lib.rt:87:13
 returns : tie.Need-returns Inv-loop μ-loop
 unfolding workflow
 returns c =
@@ -209,85 +188,66 @@ returns c =
     let handed = rw (c .enum-told .given .1) at (c .before .before .row-for .ensures) in
     placed-stuck (kept-stuck HBCS-chooses-among (in-range turn) kept (left turn) (next-is turn) all-ready to-come handed)
 
--- src/lib.rt:95:9
 mul-sits : tie.Need-mul-sits Inv-loop μ-loop
 mul-sits c = omega (arith, task-in-array (turn-of c))
 
--- src/lib.rt:95:9
 array-write-sits : tie.Need-array-write-sits Inv-loop μ-loop
 array-write-sits c = task-in-array (turn-of c)
 
--- src/lib.rt:96:9
 mul-starts : tie.Need-mul-starts Inv-loop μ-loop
 mul-starts c = omega (arith, task-in-array (turn-of c))
 
--- src/lib.rt:96:9
 array-write-starts : tie.Need-array-write-starts Inv-loop μ-loop
 array-write-starts c = task-in-array (turn-of c)
 
--- src/lib.rt:97:9
 mul-ends : tie.Need-mul-ends Inv-loop μ-loop
 mul-ends c = omega (arith, task-in-array (turn-of c))
 
--- src/lib.rt:97:9
 array-write-ends : tie.Need-array-write-ends Inv-loop μ-loop
 array-write-ends c = task-in-array (turn-of c)
 
--- src/lib.rt:98:9
 mul-costs : tie.Need-mul-costs Inv-loop μ-loop
 mul-costs c = omega (arith, task-in-array (turn-of c))
 
--- src/lib.rt:98:9
 array-write-costs : tie.Need-array-write-costs Inv-loop μ-loop
 array-write-costs c = task-in-array (turn-of c)
 
--- src/lib.rt:99:9
 array-write-placed : tie.Need-array-write-placed Inv-loop μ-loop
 array-write-placed c = task-in-array (turn-of c)
 
--- src/lib.rt:100:9
 mul-processors : tie.Need-mul-processors Inv-loop μ-loop
 mul-processors c = omega (arith, turned c .0)
 
--- src/lib.rt:100:9
 element-write-processors : tie.Need-element-write-processors Inv-loop μ-loop
 element-write-processors c = turned c .0
 
--- src/lib.rt:101:9
 less-requires : tie.Need-less-requires Inv-loop μ-loop
 less-requires c κs = search needs
 
--- src/lib.rt:102:17
 add-spent : tie.Need-add-spent Inv-loop μ-loop
 add-spent c = omega (arith, turned (c .before) .1 .spent-most, left (turn-of (c .before)), in-range (turn-of (c .before)) .tasks-in)
 
--- src/lib.rt:103:9
 larger-requires : tie.Need-larger-requires Inv-loop μ-loop
 larger-requires c κs = search needs
 
--- src/lib.rt:104:9
 add-k : tie.Need-add-k Inv-loop μ-loop
 add-k c =
     let turn = turn-of (c .before .before) in
     omega (arith, left turn, in-range turn .tasks-in)
 
--- src/lib.rt:73:5
 loop-less : tie.Need-loop-less Inv-loop μ-loop
 unfolding workflow
 loop-less c = omega (arith, left (turn-of (c .before .before)))
 
--- src/lib.rt:73:5
 loop-again : tie.Need-loop-again Inv-loop μ-loop
 unfolding workflow
 loop-again c =
     let turned = turned (c .before .before) .1 in
     (omega (arith, left (turn-of (c .before .before))), rw (c .larger .ensures, c .before .less .ensures) turned)
 
--- src/lib.rt:110:19
 less-requires-2 : tie.Need-less-requires-2 Inv-loop μ-loop
 less-requires-2 c κs = search needs
 
--- src/lib.rt:56:1
 returns-2 : tie.Need-returns-2 Inv-loop μ-loop
 unfolding workflow
 returns-2 c = placed-all (c .before .before .before .loop .inv .1) (omega arith) (c .less2 .ensures)

@@ -7,37 +7,25 @@ use native.Mathlib.Omega.{arith}
 use borrow.Author.Needs.{needs}
 use Rattle.plan.proofs.main.Statement.{statement}
 use Rattle.plan.proofs.main.Tie as tie
-use Rattle.plan.proofs.main.Reads as reads
-use Rattle.plan.proofs.main.Lts as lts
-use Rattle.io.proofs.read_full.Reads as read-full-reads
-use Rattle.io.proofs.write_all.Reads as write-all-reads
-use Rattle.text.proofs.print.Reads as print-reads
 
--- src/main.rt:9:44
 slice-aggregate-read-full : tie.Need-slice-aggregate-read-full
 slice-aggregate-read-full c = search needs
 
--- src/main.rt:9:9
 read-full-requires : tie.Need-read-full-requires
 read-full-requires c κs = search needs
 
--- src/main.rt:11:31
 array-share-prefix-request : tie.Need-array-share-prefix-request
 array-share-prefix-request c = search needs
 
--- src/main.rt:11:31
 slice-aggregate-print : tie.Need-slice-aggregate-print
 slice-aggregate-print c = search needs
 
--- src/main.rt:11:49
 slice-aggregate-print-2 : tie.Need-slice-aggregate-print-2
 slice-aggregate-print-2 c = search needs
 
--- src/main.rt:11:9
 print-requires : tie.Need-print-requires
 print-requires c κs = search needs
 
--- src/main.rt:13:24
 enum-known-printed : tie.Need-enum-known-printed
 enum-known-printed c = search needs
 
@@ -47,26 +35,21 @@ fits c =
     let print = c .before .before .before .before .print .ensures in
     rw (print .after-is, length-after _ _) (whole-printed _ _ (sym (c .before .printed .given .1) ∙ print .answer-is) .1)
 
--- src/main.rt:14:42
 array-share-prefix-out : tie.Need-array-share-prefix-out
 array-share-prefix-out c = fits c
 
--- src/main.rt:14:42
 slice-aggregate-write-all : tie.Need-slice-aggregate-write-all
 slice-aggregate-write-all c = omega (arith, fits (c .before), length-take (c .before .before .printed .given .0 .0) (c .before .before .before .before .before .print .last .1 .0))
 
--- src/main.rt:14:13
 write-all-requires : tie.Need-write-all-requires
 write-all-requires c κs = search needs
 
 enum-told : tie.Need-enum-told
 enum-told c = search needs
 
--- src/main.rt:7:1
 returns : tie.Need-returns
 returns c = search needs
 
--- src/main.rt:7:1
 returns-2 : tie.Need-returns-2
 returns-2 c = search needs
 

@@ -5,36 +5,25 @@ use Rattle.reader.specs.Meaning.{meant-reading}
 use borrow.Author.Needs.{needs}
 use Rattle.planner.proofs.plan.Statement.{statement}
 use Rattle.planner.proofs.plan.Tie as tie
-use Rattle.planner.proofs.plan.Reads as reads
-use Rattle.planner.proofs.plan.Lts as lts
-use Rattle.planner.proofs.plan_good.Reads as plan-good-reads
-use Rattle.planner.proofs.refused.Reads as refused-reads
-use Rattle.reader.proofs.read_request.Reads as read-request-reads
 
--- src/lib.rt:127:9
 read-request-requires : tie.Need-read-request-requires
 read-request-requires c κs = search needs
 
--- src/lib.rt:129:23
 enum-known-reading : tie.Need-enum-known-reading
 enum-known-reading c = search needs
 
--- src/lib.rt:129:29
 plan-good-requires : tie.Need-plan-good-requires
 plan-good-requires c κs =
     let s = c .before .before .before .before .before .args .request .now in
     let read-request = c .before .before .before .read-request in
     sym (read-request .ensures) ∙ ap (meant-reading s) (c .before .reading .given .1)
 
--- src/lib.rt:130:26
 enum-known-reading-2 : tie.Need-enum-known-reading-2
 enum-known-reading-2 c = search needs
 
--- src/lib.rt:130:44
 refused-requires : tie.Need-refused-requires
 refused-requires c κs = search needs
 
--- src/lib.rt:124:1
 returns : tie.Need-returns
 unfolding outcome outcome-read
 returns c =
@@ -42,7 +31,6 @@ returns c =
     let read-request = c .before .before .before .before .read-request in
     rw (sym (read-request .ensures) ∙ ap (meant-reading s) (c .before .before .reading .given .1)) (c .plan-good .ensures)
 
--- src/lib.rt:124:1
 returns-2 : tie.Need-returns-2
 unfolding outcome outcome-read
 returns-2 c =

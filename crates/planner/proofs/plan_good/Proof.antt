@@ -7,29 +7,19 @@ use Rattle.planner.specs.Checks.{too-few-rows, with-cycle, without-cycle
 use borrow.Author.Needs.{needs}
 use Rattle.planner.proofs.plan_good.Statement.{statement}
 use Rattle.planner.proofs.plan_good.Tie as tie
-use Rattle.planner.proofs.plan_good.Reads as reads
-use Rattle.planner.proofs.plan_good.Lts as lts
-use Rattle.planner.proofs.plan_ranked.Reads as plan-ranked-reads
-use Rattle.planner.proofs.refused.Reads as refused-reads
-use Rattle.cycles.proofs.lowest_in_cycle.Reads as lowest-in-cycle-reads
-use Rattle.ranking.proofs.rank_all.Reads as rank-all-reads
 
--- src/lib.rt:114:9
 refused-requires : tie.Need-refused-requires
 refused-requires c κs = search needs
 
--- src/lib.rt:114:9
 returns : tie.Need-returns
 unfolding workflow
 returns c =
     let a = c .before .before .before .before .args in
     rw (too-few-rows (workflow-of (a .s .now) (a .v)) (a .lent) (c .before .if1 .taken)) (c .refused .ensures)
 
--- src/lib.rt:116:18
 rank-all-requires : tie.Need-rank-all-requires
 rank-all-requires c κs = search needs
 
--- src/lib.rt:118:9
 plan-ranked-requires : tie.Need-plan-ranked-requires
 plan-ranked-requires c κs =
     let ranked = c .before .before .before .rank-all .ensures in (
@@ -37,7 +27,6 @@ plan-ranked-requires c κs =
       record { are = ranked .ranks-are (c .before .before .if2 .taken); at-most = ranked .at-most },
     )
 
--- src/lib.rt:118:9
 returns-2 : tie.Need-returns-2
 unfolding workflow
 returns-2 c =
@@ -49,16 +38,13 @@ returns-2 c =
     (without-cycle (workflow-of (a .s .now) (a .v)) (a .lent) (if1 .left) (not-true _ (sym (rank-all .ensures .all-unless-cyclic) ∙ if2 .taken)))
     (c .plan-ranked .ensures)
 
--- src/lib.rt:120:16
 lowest-in-cycle-requires : tie.Need-lowest-in-cycle-requires
 lowest-in-cycle-requires c κs =
     (c .before .before .before .before .before .pre, not-false _ (sym (c .before .rank-all .ensures .all-unless-cyclic) ∙ c .if2 .left))
 
--- src/lib.rt:120:5
 refused-requires-2 : tie.Need-refused-requires-2
 refused-requires-2 c κs = search needs
 
--- src/lib.rt:109:1
 returns-3 : tie.Need-returns-3
 unfolding workflow
 returns-3 c =

@@ -9,32 +9,22 @@ use Rattle.planner.specs.Plans.{plan-in-time}
 use borrow.Author.Needs.{needs}
 use Rattle.planner.proofs.plan_placed.Statement.{statement}
 use Rattle.planner.proofs.plan_placed.Tie as tie
-use Rattle.planner.proofs.plan_placed.Reads as reads
-use Rattle.planner.proofs.plan_placed.Lts as lts
-use Rattle.planner.proofs.refused.Reads as refused-reads
-use Rattle.planner.proofs.too_late.Reads as too-late-reads
 
--- src/lib.rt:69:24
 enum-known-outcome : tie.Need-enum-known-outcome
 enum-known-outcome c = search needs
 
--- src/lib.rt:69:33
 refused-requires : tie.Need-refused-requires
 refused-requires c κs = search needs
 
--- src/lib.rt:70:24
 enum-known-outcome-2 : tie.Need-enum-known-outcome-2
 enum-known-outcome-2 c = search needs
 
--- src/lib.rt:72:16
 too-late-requires : tie.Need-too-late-requires
 too-late-requires c κs = search needs
 
--- src/lib.rt:73:17
 refused-requires-2 : tie.Need-refused-requires-2
 refused-requires-2 c κs = search needs
 
--- src/lib.rt:73:17
 returns : tie.Need-returns
 unfolding workflow
 returns c =
@@ -47,7 +37,6 @@ returns c =
     (after-deadline W (place HBCS W (W .tasks)) (sym (outcome2 .given .1) ∙ pre .outcome-is) (sym (too-late .ensures) ∙ c .before .if1 .taken))
     (c .refused2 .ensures)
 
--- src/lib.rt:63:1
 returns-2 : tie.Need-returns-2
 unfolding workflow
 returns-2 c =
@@ -57,7 +46,6 @@ returns-2 c =
     let W = workflow-of (a .s .now) (a .v) in
     rw (nothing-to-take W (place HBCS W (W .tasks)) (sym (outcome .given .1) ∙ pre .outcome-is)) (c .refused .ensures)
 
--- src/lib.rt:63:1
 returns-3 : tie.Need-returns-3
 unfolding workflow
 returns-3 c =

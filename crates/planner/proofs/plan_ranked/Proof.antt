@@ -5,22 +5,13 @@ use Rattle.planner.specs.Checks.{too-dear, within-budget}
 use borrow.Author.Needs.{needs}
 use Rattle.planner.proofs.plan_ranked.Statement.{statement}
 use Rattle.planner.proofs.plan_ranked.Tie as tie
-use Rattle.planner.proofs.plan_ranked.Reads as reads
-use Rattle.planner.proofs.plan_ranked.Lts as lts
-use Rattle.hand.proofs.cheapest_total.Reads as cheapest-total-reads
-use Rattle.placing.proofs.place.Reads as place-reads
-use Rattle.planner.proofs.plan_placed.Reads as plan-placed-reads
-use Rattle.planner.proofs.refused.Reads as refused-reads
 
--- src/lib.rt:101:9
 cheapest-total-requires : tie.Need-cheapest-total-requires
 cheapest-total-requires c κs = c .before .pre .0
 
--- src/lib.rt:103:9
 refused-requires : tie.Need-refused-requires
 refused-requires c κs = search needs
 
--- src/lib.rt:103:9
 returns : tie.Need-returns
 unfolding workflow
 returns c =
@@ -29,17 +20,14 @@ returns c =
     let W = workflow-of (a .s .now) (a .v) in
     rw (too-dear W (rw (cheapest-total .ensures .0) at (c .before .if1 .taken)), ← cheapest-total .ensures .0) (c .refused .ensures)
 
--- src/lib.rt:105:23
 place-requires : tie.Need-place-requires
 place-requires c κs =
     let pre = c .before .before .before .before .pre in
     (pre .0, (pre .1, c .before .before .cheapest-total .ensures .0))
 
--- src/lib.rt:105:5
 plan-placed-requires : tie.Need-plan-placed-requires
 plan-placed-requires c κs = search needs
 
--- src/lib.rt:96:1
 returns-2 : tie.Need-returns-2
 unfolding workflow
 returns-2 c =

@@ -3,23 +3,17 @@ use Rattle.rules.specs.Answer.{too-late}
 use borrow.Author.Needs.{needs}
 use Rattle.planner.proofs.too_late.Statement.{statement}
 use Rattle.planner.proofs.too_late.Tie as tie
-use Rattle.planner.proofs.too_late.Reads as reads
-use Rattle.planner.proofs.too_late.Lts as lts
 
--- src/lib.rt:57:30
 enum-told : tie.Need-enum-told
 enum-told c = search needs
 
--- src/lib.rt:58:22
 enum-known-deadline : tie.Need-enum-known-deadline
 enum-known-deadline c = search needs
 
--- src/lib.rt:53:1
 returns : tie.Need-returns
 unfolding too-late
 returns c = rw (c .enum-told .given .1)
 
--- src/lib.rt:53:1
 returns-2 : tie.Need-returns-2
 unfolding too-late
 returns-2 c = rw (c .before .deadline .given .1)

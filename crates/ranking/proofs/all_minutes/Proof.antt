@@ -10,9 +10,6 @@ use borrow.Author.Needs.{needs}
 use native.Mathlib.Omega.{arith}
 use Rattle.ranking.proofs.all_minutes.Statement.{statement}
 use Rattle.ranking.proofs.all_minutes.Tie as tie
-use Rattle.ranking.proofs.all_minutes.Reads as reads
-use Rattle.ranking.proofs.all_minutes.Lts as lts
-use Rattle.lookup.proofs.minutes.Reads as minutes-reads
 
 abbrev Inv-loop : tie.InvT-loop
 Inv-loop s v task minutes₀ j₀ minutes j =
@@ -21,16 +18,13 @@ Inv-loop s v task minutes₀ j₀ minutes j =
 abbrev μ-loop : tie.MeasureT-loop
 μ-loop s v task minutes₀ j₀ minutes j = v .processors - j
 
--- src/lib.rt:27:5
 loop-holds : tie.Need-loop-holds Inv-loop μ-loop
 unfolding sum
 loop-holds c = (omega arith, refl, omega arith)
 
--- src/lib.rt:28:29
 minutes-requires : tie.Need-minutes-requires Inv-loop μ-loop
 minutes-requires c κs = search needs
 
--- src/lib.rt:28:19
 add-minutes : tie.Need-add-minutes Inv-loop μ-loop
 unfolding workflow
 add-minutes c =
@@ -39,15 +33,12 @@ add-minutes c =
     let minutes = c .minutes in
     omega (arith, minutes .ensures, view-in-range (a .s .now) (a .v) (pre .0) .processors-in)
 
--- src/lib.rt:29:9
 add-j : tie.Need-add-j Inv-loop μ-loop
 add-j c = omega arith
 
--- src/lib.rt:27:5
 loop-less : tie.Need-loop-less Inv-loop μ-loop
 loop-less c = omega arith
 
--- src/lib.rt:27:5
 loop-again : tie.Need-loop-again Inv-loop μ-loop
 loop-again c =
     let a = c .before .before .before .before .before .args in
@@ -61,7 +52,6 @@ loop-again c =
       omega arith,
     )
 
--- src/lib.rt:20:1
 returns : tie.Need-returns Inv-loop μ-loop
 unfolding workflow
 returns c =

@@ -8,9 +8,6 @@ use Rattle.ranking.specs.Begins.{begins-after, begins-at-start, onward-f
 use native.Mathlib.Omega.{arith}
 use Rattle.ranking.proofs.begin_of.Statement.{statement}
 use Rattle.ranking.proofs.begin_of.Tie as tie
-use Rattle.ranking.proofs.begin_of.Reads as reads
-use Rattle.ranking.proofs.begin_of.Lts as lts
-use Rattle.lookup.proofs.from.Reads as from-reads
 
 abbrev Inv-loop : tie.InvT-loop
 Inv-loop s v task end begin₀ begin =
@@ -19,7 +16,6 @@ Inv-loop s v task end begin₀ begin =
 abbrev μ-loop : tie.MeasureT-loop
 μ-loop s v task end begin₀ begin = begin
 
--- src/lib.rt:41:5
 loop-holds : tie.Need-loop-holds Inv-loop μ-loop
 unfolding workflow
 loop-holds c =
@@ -27,15 +23,12 @@ loop-holds c =
     let last = pre .1 in
     (last .within, λ e l below. omega (arith, last .onward e l below))
 
--- src/lib.rt:42:22
 sub-before : tie.Need-sub-before Inv-loop μ-loop
 sub-before c = omega arith
 
--- src/lib.rt:43:12
 from-requires : tie.Need-from-requires Inv-loop μ-loop
 from-requires c κs = (c .before .before .before .pre .0, omega arith)
 
--- src/lib.rt:44:13
 returns : tie.Need-returns Inv-loop μ-loop
 unfolding workflow
 returns c =
@@ -51,11 +44,9 @@ returns c =
     let earlier : W .from (begin - 1) < a .task = omega (arith, from .ensures .0, if1 .taken) in
     begins-after W range (a .task) (begin - 1) begin (omega arith) (inv .0) earlier (inv .1)
 
--- src/lib.rt:41:5
 loop-less : tie.Need-loop-less Inv-loop μ-loop
 loop-less c = omega arith
 
--- src/lib.rt:41:5
 loop-again : tie.Need-loop-again Inv-loop μ-loop
 unfolding workflow
 loop-again c =
@@ -73,7 +64,6 @@ loop-again c =
       onward-from W range (a .task) (begin - 1) begin (omega arith) not-earlier (inv .1),
     )
 
--- src/lib.rt:35:1
 returns-2 : tie.Need-returns-2 Inv-loop μ-loop
 unfolding workflow
 returns-2 c =

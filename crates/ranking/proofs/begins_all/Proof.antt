@@ -10,9 +10,6 @@ use Rattle.ranking.specs.Begins.{Begins, BeginsFrom, begins-at-end, begi
 use native.Mathlib.Omega.{arith}
 use Rattle.ranking.proofs.begins_all.Statement.{statement}
 use Rattle.ranking.proofs.begins_all.Tie as tie
-use Rattle.ranking.proofs.begins_all.Reads as reads
-use Rattle.ranking.proofs.begins_all.Lts as lts
-use Rattle.ranking.proofs.begin_of.Reads as begin-of-reads
 
 abbrev Inv-loop : tie.InvT-loop
 Inv-loop s v begins₀ task₀ end₀ begins task end = (task ≤ v .tasks) × Begins (workflow-of s v) task end × BeginsFrom (workflow-of s v) task begins
@@ -24,22 +21,18 @@ abbrev μ-loop : tie.MeasureT-loop
 in-range : (c : tie.Start Inv-loop μ-loop) → InRange (workflow-of (c .args .s .now) (c .args .v))
 in-range c = view-in-range (c .args .s .now) (c .args .v) (c .pre)
 
--- src/lib.rt:59:20
 cast-begins : tie.Need-cast-begins Inv-loop μ-loop
 unfolding workflow
 cast-begins c = omega (arith, in-range (c .before) .edges-in)
 
--- src/lib.rt:59:5
 mul-begins : tie.Need-mul-begins Inv-loop μ-loop
 unfolding workflow
 mul-begins c = omega (arith, in-range (c .before) .tasks-in)
 
--- src/lib.rt:59:5
 array-write-begins : tie.Need-array-write-begins Inv-loop μ-loop
 unfolding workflow
 array-write-begins c = omega (arith, in-range (c .before) .tasks-in)
 
--- src/lib.rt:60:5
 loop-holds : tie.Need-loop-holds Inv-loop μ-loop
 unfolding workflow
 loop-holds c =
@@ -49,37 +42,30 @@ loop-holds c =
     let at-end = begins-at-end W range in
     (omega arith, at-end, begins-from W (a .v .tasks) (a .v .edges) (replicate 65 0) refl (omega (arith, range .tasks-in)) at-end (λ later l below. absurd (omega arith)))
 
--- src/lib.rt:61:9
 sub-task : tie.Need-sub-task Inv-loop μ-loop
 sub-task c = omega arith
 
--- src/lib.rt:62:9
 begin-of-requires : tie.Need-begin-of-requires Inv-loop μ-loop
 begin-of-requires c κs =
     let loop = c .before .loop in
     let again : loop .task - 1 + 1 ≡ loop .task = omega arith in
     (c .before .before .before .pre, rw again (loop .inv .1))
 
--- src/lib.rt:63:24
 cast-begins-2 : tie.Need-cast-begins-2 Inv-loop μ-loop
 unfolding workflow
 cast-begins-2 c = omega (arith, c .begin-of .ensures .within, in-range (c .before .before .before .before) .edges-in)
 
--- src/lib.rt:63:9
 mul-begins-2 : tie.Need-mul-begins-2 Inv-loop μ-loop
 unfolding workflow
 mul-begins-2 c = omega (arith, in-range (c .before .before .before .before) .tasks-in)
 
--- src/lib.rt:63:9
 array-write-begins-2 : tie.Need-array-write-begins-2 Inv-loop μ-loop
 unfolding workflow
 array-write-begins-2 c = omega (arith, in-range (c .before .before .before .before) .tasks-in)
 
--- src/lib.rt:60:5
 loop-less : tie.Need-loop-less Inv-loop μ-loop
 loop-less c = omega arith
 
--- src/lib.rt:60:5
 loop-again : tie.Need-loop-again Inv-loop μ-loop
 unfolding workflow
 loop-again c =
@@ -90,7 +76,6 @@ loop-again c =
     let here = c .begin-of .ensures in
     (omega arith, here, begins-from (workflow-of (a .s .now) (a .v)) (loop .task - 1) _ (loop .begins) (so-far .size) (omega (arith, range .tasks-in)) here (λ later l below. so-far .begin later (omega arith) below))
 
--- src/lib.rt:52:1
 returns : tie.Need-returns Inv-loop μ-loop
 returns c =
     let loop = c .before .loop in

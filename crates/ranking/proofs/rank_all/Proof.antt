@@ -9,10 +9,6 @@ use Rattle.ranking.specs.RankedLaws.{ranked-none, ranked-all, ranked-not
 use native.Mathlib.Omega.{arith}
 use Rattle.ranking.proofs.rank_all.Statement.{statement}
 use Rattle.ranking.proofs.rank_all.Tie as tie
-use Rattle.ranking.proofs.rank_all.Reads as reads
-use Rattle.ranking.proofs.rank_all.Lts as lts
-use Rattle.ranking.proofs.begins_all.Reads as begins-all-reads
-use Rattle.ranking.proofs.rank_pass.Reads as rank-pass-reads
 
 abbrev Inv-loop : tie.InvT-loop
 Inv-loop s v begins ranks₀ left₀ ranks left = RankedSoFar (workflow-of s v) ranks left
@@ -20,23 +16,19 @@ Inv-loop s v begins ranks₀ left₀ ranks left = RankedSoFar (workflow-of s v) 
 abbrev μ-loop : tie.MeasureT-loop
 μ-loop s v begins ranks₀ left₀ ranks left = left
 
--- src/lib.rt:138:18
 begins-all-requires : tie.Need-begins-all-requires Inv-loop μ-loop
 begins-all-requires c κs = c .before .pre
 
--- src/lib.rt:141:5
 loop-holds : tie.Need-loop-holds Inv-loop μ-loop
 unfolding workflow
 loop-holds c =
     let a = c .before .before .args in
     ranked-none (workflow-of (a .s .now) (a .v)) (view-in-range (a .s .now) (a .v) (c .before .before .pre))
 
--- src/lib.rt:143:9
 rank-pass-requires : tie.Need-rank-pass-requires Inv-loop μ-loop
 rank-pass-requires c κs =
     (c .before .before .before .before .before .before .pre, (c .before .before .before .before .begins-all .ensures, c .before .before .before .loop .inv))
 
--- src/lib.rt:145:13
 returns : tie.Need-returns Inv-loop μ-loop
 returns c =
     let start = c .before .before .before .before .before .before .before .before in
@@ -48,15 +40,12 @@ returns c =
     (omega (arith, if1 .taken, loop-test .taken))
     (turned-still turned (if1 .taken))
 
--- src/lib.rt:141:5
 loop-less : tie.Need-loop-less Inv-loop μ-loop
 loop-less c = turned-less (c .before .rank-pass .ensures) (c .if1 .left)
 
--- src/lib.rt:141:5
 loop-again : tie.Need-loop-again Inv-loop μ-loop
 loop-again c = c .before .rank-pass .ensures .kept
 
--- src/lib.rt:134:1
 returns-2 : tie.Need-returns-2 Inv-loop μ-loop
 returns-2 c =
     let start = c .before .before .before .before in

@@ -11,12 +11,6 @@ use borrow.Author.Needs.{needs}
 use native.Mathlib.Omega.{arith}
 use Rattle.ranking.proofs.rank_of.Statement.{statement}
 use Rattle.ranking.proofs.rank_of.Tie as tie
-use Rattle.ranking.proofs.rank_of.Reads as reads
-use Rattle.ranking.proofs.rank_of.Lts as lts
-use Rattle.lookup.proofs.to.Reads as to-reads
-use Rattle.lookup.proofs.transfer.Reads as transfer-reads
-use Rattle.ranking.proofs.all_minutes.Reads as all-minutes-reads
-use Rattle.numbers.proofs.larger.Reads as larger-reads
 
 abbrev Inv-loop : tie.InvT-loop
 Inv-loop s v ranks task begin end processors most₀ e₀ most e = Passed (workflow-of s v) ranks task begin end e most
@@ -24,7 +18,6 @@ Inv-loop s v ranks task begin end processors most₀ e₀ most e = Passed (workf
 abbrev μ-loop : tie.MeasureT-loop
 μ-loop s v ranks task begin end processors most₀ e₀ most e = end - e
 
--- src/lib.rt:78:5
 loop-holds : tie.Need-loop-holds Inv-loop μ-loop
 loop-holds c =
     let pre = c .before .pre in
@@ -33,12 +26,10 @@ loop-holds c =
     let range = view-in-range (a .s .now) (a .v) (pre .0) in
     passed-none W range (a .ranks .now) (a .task) (a .begin) (a .end) (pre .1 .1 .0) (pre .1 .1 .1)
 
--- src/lib.rt:79:28
 to-requires : tie.Need-to-requires Inv-loop μ-loop
 unfolding workflow
 to-requires c κs = (c .before .before .before .pre .0, omega (arith, c .before .before .before .pre .1 .1 .1 .within))
 
--- src/lib.rt:79:22
 mul-onward : tie.Need-mul-onward Inv-loop μ-loop
 unfolding workflow
 mul-onward c =
@@ -47,7 +38,6 @@ mul-onward c =
     let to = c .to in
     omega (arith, to .ensures .1, view-in-range (a .s .now) (a .v) (pre .0) .tasks-in)
 
--- src/lib.rt:79:22
 element-copy-out-onward : tie.Need-element-copy-out-onward Inv-loop μ-loop
 unfolding workflow
 element-copy-out-onward c =
@@ -56,7 +46,6 @@ element-copy-out-onward c =
     let to = c .to in
     omega (arith, to .ensures .1, view-in-range (a .s .now) (a .v) (pre .0) .tasks-in)
 
--- src/lib.rt:81:13
 returns : tie.Need-returns Inv-loop μ-loop
 returns c =
     let pre = c .before .before .before .before .before .before .pre in
@@ -71,14 +60,12 @@ returns c =
     held-up-here W range (a .ranks .now) (a .task) (a .begin) (a .end) (pre .1 .1 .0) (pre .1 .1 .1) (loop .e) (loop-test .taken)
     (loop .inv .from-begin) unknown
 
--- src/lib.rt:83:51
 transfer-requires : tie.Need-transfer-requires Inv-loop μ-loop
 unfolding workflow
 transfer-requires c κs =
     let pre = c .before .before .before .before .before .before .pre in
     (pre .0, omega (arith, pre .1 .1 .1 .within))
 
--- src/lib.rt:83:38
 mul-larger : tie.Need-mul-larger Inv-loop μ-loop
 unfolding workflow
 mul-larger c =
@@ -88,7 +75,6 @@ mul-larger c =
     let range = view-in-range (a .s .now) (a .v) (pre .0) in
     omega (arith, mul-le-mul (range .processors-in .to-high) (transfer .ensures .1))
 
--- src/lib.rt:83:38
 add-larger : tie.Need-add-larger Inv-loop μ-loop
 unfolding workflow
 add-larger c =
@@ -99,19 +85,15 @@ add-larger c =
     let range = view-in-range (a .s .now) (a .v) (pre .0) in
     omega (arith, mul-le-mul (range .processors-in .to-high) (transfer .ensures .1), pre .1 .0 .1 (to .result))
 
--- src/lib.rt:83:9
 larger-requires : tie.Need-larger-requires Inv-loop μ-loop
 larger-requires c κs = search needs
 
--- src/lib.rt:84:9
 add-e : tie.Need-add-e Inv-loop μ-loop
 add-e c = omega arith
 
--- src/lib.rt:78:5
 loop-less : tie.Need-loop-less Inv-loop μ-loop
 loop-less c = omega arith
 
--- src/lib.rt:78:5
 loop-again : tie.Need-loop-again Inv-loop μ-loop
 unfolding workflow
 loop-again c =
@@ -131,15 +113,12 @@ loop-again c =
     (ap (at (a .ranks .now)) (to .ensures .0)) (omega (arith, if1 .left))
     (pre .1 .0 .1 (to .result)) next
 
--- src/lib.rt:86:5
 all-minutes-requires : tie.Need-all-minutes-requires Inv-loop μ-loop
 all-minutes-requires c κs = (c .before .before .before .pre .0, c .before .before .before .pre .1 .0 .0)
 
--- src/lib.rt:86:5
 add-result : tie.Need-add-result Inv-loop μ-loop
 add-result c = omega (arith, c .before .before .loop .inv .at-most, c .all-minutes .ensures .1)
 
--- src/lib.rt:69:1
 returns-2 : tie.Need-returns-2 Inv-loop μ-loop
 unfolding workflow
 returns-2 c =

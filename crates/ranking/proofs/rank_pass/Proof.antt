@@ -12,9 +12,6 @@ use Rattle.ranking.specs.RankedLaws.{held-up-from}
 use native.Mathlib.Omega.{arith}
 use Rattle.ranking.proofs.rank_pass.Statement.{statement}
 use Rattle.ranking.proofs.rank_pass.Tie as tie
-use Rattle.ranking.proofs.rank_pass.Reads as reads
-use Rattle.ranking.proofs.rank_pass.Lts as lts
-use Rattle.ranking.proofs.rank_task.Reads as rank-task-reads
 
 abbrev Inv-loop : tie.InvT-loop
 Inv-loop s v begins ranks₀ left now-left₀ task₀ ranks now-left task =
@@ -31,46 +28,37 @@ begin-within : (c : tie.Start Inv-loop μ-loop) (task : ℕ) → task ≤ c .arg
 unfolding workflow
 begin-within c task l = omega (arith, c .pre .1 .0 .begin task (omega arith) l .within, in-range c .edges-in)
 
--- src/lib.rt:124:5
 loop-holds : tie.Need-loop-holds Inv-loop μ-loop
 unfolding workflow
 loop-holds c = (omega arith, turned-none (c .before .pre .1 .1) (λ i l below. absurd (omega arith)))
 
--- src/lib.rt:125:19
 mul-end : tie.Need-mul-end Inv-loop μ-loop
 unfolding workflow
 mul-end c = omega (arith, in-range (c .before .before .before) .tasks-in)
 
--- src/lib.rt:125:19
 element-copy-out-end : tie.Need-element-copy-out-end Inv-loop μ-loop
 unfolding workflow
 element-copy-out-end c = omega (arith, in-range (c .before .before .before) .tasks-in)
 
--- src/lib.rt:125:19
 cast-end : tie.Need-cast-end Inv-loop μ-loop
 unfolding workflow
 cast-end c = omega (arith, begin-within (c .before .before .before .before) (c .before .before .loop .task) (omega arith))
 
--- src/lib.rt:126:9
 sub-task : tie.Need-sub-task Inv-loop μ-loop
 sub-task c = omega arith
 
--- src/lib.rt:127:21
 mul-begin : tie.Need-mul-begin Inv-loop μ-loop
 unfolding workflow
 mul-begin c = omega (arith, in-range (c .before .before .before .before) .tasks-in)
 
--- src/lib.rt:127:21
 element-copy-out-begin : tie.Need-element-copy-out-begin Inv-loop μ-loop
 unfolding workflow
 element-copy-out-begin c = omega (arith, in-range (c .before .before .before .before) .tasks-in)
 
--- src/lib.rt:127:21
 cast-begin : tie.Need-cast-begin Inv-loop μ-loop
 unfolding workflow
 cast-begin c = omega (arith, begin-within (c .before .before .before .before .before) (c .before .before .before .loop .task - 1) (omega arith))
 
--- src/lib.rt:128:9
 rank-task-requires : tie.Need-rank-task-requires Inv-loop μ-loop
 unfolding workflow
 rank-task-requires c κs =
@@ -80,11 +68,9 @@ rank-task-requires c κs =
     let again : loop .task - 1 + 1 ≡ loop .task = omega arith in
     (pre .0, ((omega arith, loop .inv .1 .kept), (begins _ (omega arith) (omega arith), rw again (begins _ (omega arith) (omega arith)))))
 
--- src/lib.rt:124:5
 loop-less : tie.Need-loop-less Inv-loop μ-loop
 loop-less c = omega arith
 
--- src/lib.rt:124:5
 loop-again : tie.Need-loop-again Inv-loop μ-loop
 loop-again c =
     let a = c .before .before .before .before .before .before .before .args in
@@ -93,7 +79,6 @@ loop-again c =
     let so-far = loop .inv .1 in
     (omega arith, turned-next (held-up-from (workflow-of (a .s .now) (a .v)) (loop .task - 1)) (rw again so-far) (c .rank-task .ensures))
 
--- src/lib.rt:116:1
 returns : tie.Need-returns Inv-loop μ-loop
 returns c =
     let loop = c .before .loop in

@@ -10,11 +10,7 @@ use Rattle.ranking.specs.RankedMore.{some-left, rank-turned}
 use native.Mathlib.Omega.{arith}
 use Rattle.ranking.proofs.rank_task.Statement.{statement}
 use Rattle.ranking.proofs.rank_task.Tie as tie
-use Rattle.ranking.proofs.rank_task.Reads as reads
-use Rattle.ranking.proofs.rank_task.Lts as lts
-use Rattle.ranking.proofs.rank_of.Reads as rank-of-reads
 
--- src/lib.rt:104:12
 mul-if1 : tie.Need-mul-if1
 unfolding workflow
 mul-if1 c =
@@ -22,7 +18,6 @@ mul-if1 c =
     let a = c .before .args in
     omega (arith, pre .1 .0 .0, view-in-range (a .s .now) (a .v) (pre .0) .tasks-in)
 
--- src/lib.rt:104:12
 element-copy-out-if1 : tie.Need-element-copy-out-if1
 unfolding workflow
 element-copy-out-if1 c =
@@ -30,14 +25,12 @@ element-copy-out-if1 c =
     let a = c .before .args in
     omega (arith, pre .1 .0 .0, view-in-range (a .s .now) (a .v) (pre .0) .tasks-in)
 
--- src/lib.rt:105:9
 returns : tie.Need-returns
 returns c =
     let pre = c .before .before .before .pre in
     let if1 = c .if1 in
     turned-none (pre .1 .0 .1) (λ unknown. absurd (omega (arith, unknown, if1 .taken)))
 
--- src/lib.rt:107:9
 rank-of-requires : tie.Need-rank-of-requires
 rank-of-requires c κs =
     let pre = c .before .before .before .before .pre in
@@ -47,7 +40,6 @@ rank-of-requires c κs =
     let (task, so-far) = pre .1 .0 in
     (pre .0, ((task, known-at-most W range (a .ranks .now) (a .left) so-far), pre .1 .1))
 
--- src/lib.rt:109:9
 returns-2 : tie.Need-returns-2
 returns-2 c =
     let pre = c .before .before .before .before .before .before .pre in
@@ -55,7 +47,6 @@ returns-2 c =
     let if2 = c .if2 in
     turned-none (pre .1 .0 .1) (λ unknown. rank-of .ensures .not-due (if2 .taken))
 
--- src/lib.rt:111:5
 mul-ranks : tie.Need-mul-ranks
 unfolding workflow
 mul-ranks c =
@@ -63,7 +54,6 @@ mul-ranks c =
     let a = c .before .before .before .before .before .before .args in
     omega (arith, pre .1 .0 .0, view-in-range (a .s .now) (a .v) (pre .0) .tasks-in)
 
--- src/lib.rt:111:5
 element-write-ranks : tie.Need-element-write-ranks
 unfolding workflow
 element-write-ranks c =
@@ -71,7 +61,6 @@ element-write-ranks c =
     let a = c .before .before .before .before .before .before .args in
     omega (arith, pre .1 .0 .0, view-in-range (a .s .now) (a .v) (pre .0) .tasks-in)
 
--- src/lib.rt:112:5
 sub-result : tie.Need-sub-result
 unfolding workflow
 sub-result c =
@@ -87,7 +76,6 @@ sub-result c =
     let due = rank-of .ensures .due (omega (arith, if2 .left)) in
     some-left W range (a .ranks .now) (a .left) (a .task) (rank-of .result) so-far (pre .1 .0 .0) unknown (due .0) (due .1)
 
--- src/lib.rt:90:1
 returns-3 : tie.Need-returns-3
 unfolding workflow
 returns-3 c =

@@ -11,38 +11,26 @@ use Rattle.rules.specs.Reading.{then, deadline-part}
 use borrow.Author.Needs.{needs}
 use Rattle.reader.proofs.read_deadline.Statement.{statement}
 use Rattle.reader.proofs.read_deadline.Tie as tie
-use Rattle.reader.proofs.read_deadline.Reads as reads
-use Rattle.reader.proofs.read_deadline.Lts as lts
-use Rattle.reader.proofs.handed_up.Reads as handed-up-reads
-use Rattle.records.proofs.kind.Reads as kind-reads
-use Rattle.records.proofs.read_deadline.Reads as read-deadline-reads
 
--- src/lib.rt:42:8
 kind-requires : tie.Need-kind-requires
 kind-requires c κs = search needs
 
--- src/lib.rt:43:9
 returns : tie.Need-returns
 unfolding deadline-part then kind-byte
 returns c = rw (← c .before .kind .ensures, ne-eqb _ _ (c .if1 .taken))
 
--- src/lib.rt:48:9
 read-deadline-requires : tie.Need-read-deadline-requires
 read-deadline-requires c κs = search needs
 
--- src/lib.rt:49:28
 enum-known-answer : tie.Need-enum-known-answer
 enum-known-answer c = search needs
 
--- src/lib.rt:51:21
 enum-told : tie.Need-enum-told
 enum-told c = search needs
 
--- src/lib.rt:51:21
 handed-up-requires : tie.Need-handed-up-requires
 handed-up-requires c κs = search needs
 
--- src/lib.rt:50:9
 returns-2 : tie.Need-returns-2
 unfolding deadline-part then kind-byte
 returns-2 c =
@@ -52,15 +40,12 @@ returns-2 c =
     let enum-told = c .before .enum-told in
     rw (c .handed-up .ensures, ← kind .ensures, eq-eqb _ _ (if1 .left), ← read-deadline .ensures, enum-told .given .1)
 
--- src/lib.rt:55:28
 enum-known-found : tie.Need-enum-known-found
 enum-known-found c = search needs
 
--- src/lib.rt:57:21
 handed-up-requires-2 : tie.Need-handed-up-requires-2
 handed-up-requires-2 c κs = search needs
 
--- src/lib.rt:56:9
 returns-3 : tie.Need-returns-3
 returns-3 c =
     let a = c .before .before .before .before .before .before .before .before .before .args in
@@ -69,7 +54,6 @@ returns-3 c =
     absurd (miss (0 ∷ 2 ∷ 3 ∷ 4 ∷ 5 ∷ 6 ∷ []) 1 tt (due-among (0 ∷ 2 ∷ 3 ∷ 4 ∷ 5 ∷ 6 ∷ []) (answer .given .0 .1 .0)
     (deadline-found (a .s .now) (a .c .at) (sym (ap meant (answer .given .1)) ∙ read-deadline .ensures)) (c .before .match2 .keys2)))
 
--- src/lib.rt:39:1
 returns-4 : tie.Need-returns-4
 unfolding deadline-part then kind-byte
 returns-4 c =

@@ -13,10 +13,6 @@ use borrow.Author.Needs.{needs}
 use native.Mathlib.Omega.{arith}
 use Rattle.reader.proofs.read_edges.Statement.{statement}
 use Rattle.reader.proofs.read_edges.Tie as tie
-use Rattle.reader.proofs.read_edges.Reads as reads
-use Rattle.reader.proofs.read_edges.Lts as lts
-use Rattle.reader.proofs.handed_up.Reads as handed-up-reads
-use Rattle.edges.proofs.read_edge_or_end.Reads as read-edge-or-end-reads
 
 abbrev Inv-loop : tie.InvT-loop
 Inv-loop s n next₀ before₀ left₀ next before left =
@@ -26,27 +22,21 @@ Inv-loop s n next₀ before₀ left₀ next before left =
 abbrev μ-loop : tie.MeasureT-loop
 μ-loop s n next₀ before₀ left₀ next before left = left
 
--- src/lib.rt:145:5
 loop-holds : tie.Need-loop-holds Inv-loop μ-loop
 loop-holds c = (refl, refl)
 
--- src/lib.rt:146:13
 read-edge-or-end-requires : tie.Need-read-edge-or-end-requires Inv-loop μ-loop
 read-edge-or-end-requires c κs = search needs
 
--- src/lib.rt:147:32
 enum-known-answer : tie.Need-enum-known-answer Inv-loop μ-loop
 enum-known-answer c = search needs
 
--- src/lib.rt:149:25
 enum-told : tie.Need-enum-told Inv-loop μ-loop
 enum-told c = search needs
 
--- src/lib.rt:149:25
 handed-up-requires : tie.Need-handed-up-requires Inv-loop μ-loop
 handed-up-requires c κs = search needs
 
--- src/lib.rt:148:13
 returns : tie.Need-returns Inv-loop μ-loop
 returns c =
     let a = c .before .before .before .before .before .before .before .args in
@@ -59,11 +49,9 @@ returns c =
     read-edge-or-end .ensures) ∙
     one-due _ _ _ _ _ (loop-test .taken) (loop .inv .0))
 
--- src/lib.rt:154:13
 enum-known-found : tie.Need-enum-known-found Inv-loop μ-loop
 enum-known-found c = search needs
 
--- src/lib.rt:159:13
 returns-2 : tie.Need-returns-2 Inv-loop μ-loop
 returns-2 c =
     let a = c .before .before .before .before .before .before .before .before .args in
@@ -78,21 +66,17 @@ returns-2 c =
     (λ five. miss others 5 tt (subst (OneOf others) five told)) ∙
     one-due _ _ _ _ _ (loop-test .taken) (loop .inv .0)
 
--- src/lib.rt:166:20
 add-t15 : tie.Need-add-t15 Inv-loop μ-loop
 add-t15 c =
     let loop = c .before .before .before .before .before .before .before .before .before .loop in
     omega (arith, loop .inv .1)
 
--- src/lib.rt:170:9
 sub-left : tie.Need-sub-left Inv-loop μ-loop
 sub-left c = omega arith
 
--- src/lib.rt:145:5
 loop-less : tie.Need-loop-less Inv-loop μ-loop
 loop-less c = omega arith
 
--- src/lib.rt:145:5
 loop-again : tie.Need-loop-again Inv-loop μ-loop
 loop-again c =
     let a = c .before .before .before .before .before .before .before .before .before .before .before .args in
@@ -108,7 +92,6 @@ loop-again c =
       omega (arith, loop .inv .1),
     )
 
--- src/lib.rt:135:1
 returns-3 : tie.Need-returns-3 Inv-loop μ-loop
 returns-3 c = none-due _ _ _ _ _ (c .loop-test .left) (c .before .loop .inv .0)
 

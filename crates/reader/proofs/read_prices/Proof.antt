@@ -9,10 +9,6 @@ use borrow.Author.Needs.{needs}
 use native.Mathlib.Omega.{arith}
 use Rattle.reader.proofs.read_prices.Statement.{statement}
 use Rattle.reader.proofs.read_prices.Tie as tie
-use Rattle.reader.proofs.read_prices.Reads as reads
-use Rattle.reader.proofs.read_prices.Lts as lts
-use Rattle.reader.proofs.handed_up.Reads as handed-up-reads
-use Rattle.records.proofs.read_price.Reads as read-price-reads
 
 abbrev Inv-loop : tie.InvT-loop
 Inv-loop s m next₀ j₀ next j = Reached (price-at s) (next₀ .at) m j (next .at)
@@ -20,27 +16,21 @@ Inv-loop s m next₀ j₀ next j = Reached (price-at s) (next₀ .at) m j (next 
 abbrev μ-loop : tie.MeasureT-loop
 μ-loop s m next₀ j₀ next j = m - j
 
--- src/lib.rt:73:5
 loop-holds : tie.Need-loop-holds Inv-loop μ-loop
 loop-holds c = none-reached
 
--- src/lib.rt:74:13
 read-price-requires : tie.Need-read-price-requires Inv-loop μ-loop
 read-price-requires c κs = search needs
 
--- src/lib.rt:75:32
 enum-known-answer : tie.Need-enum-known-answer Inv-loop μ-loop
 enum-known-answer c = search needs
 
--- src/lib.rt:76:13
 enum-told : tie.Need-enum-told Inv-loop μ-loop
 enum-told c = search needs
 
--- src/lib.rt:76:13
 handed-up-requires : tie.Need-handed-up-requires Inv-loop μ-loop
 handed-up-requires c κs = search needs
 
--- src/lib.rt:76:13
 returns : tie.Need-returns Inv-loop μ-loop
 unfolding prices-part
 returns c =
@@ -49,22 +39,18 @@ returns c =
     (refused-there (answered .before .before .loop .inv) (answered .before .loop-test .taken) (answered .read-price .ensures)
     (ap meant (c .before .enum-told .given .1)))
 
--- src/lib.rt:79:9
 add-j : tie.Need-add-j Inv-loop μ-loop
 add-j c = omega arith
 
--- src/lib.rt:73:5
 loop-less : tie.Need-loop-less Inv-loop μ-loop
 loop-less c = omega arith
 
--- src/lib.rt:73:5
 loop-again : tie.Need-loop-again Inv-loop μ-loop
 loop-again c =
     let answered = c .before .before .before in
     one-more-reached (answered .before .before .loop .inv) (answered .before .loop-test .taken) (answered .read-price .ensures)
     (ap meant (c .before .answer .given .1))
 
--- src/lib.rt:68:1
 returns-2 : tie.Need-returns-2 Inv-loop μ-loop
 unfolding prices-part
 returns-2 c = all-reached (c .before .loop .inv) (c .loop-test .left)

@@ -11,15 +11,6 @@ use Rattle.reader.proofs.RequestLaws.{header-refused, header-read, part
 use borrow.Author.Needs.{needs}
 use Rattle.reader.proofs.read_request.Statement.{statement}
 use Rattle.reader.proofs.read_request.Tie as tie
-use Rattle.reader.proofs.read_request.Reads as reads
-use Rattle.reader.proofs.read_request.Lts as lts
-use Rattle.reader.proofs.handed_up.Reads as handed-up-reads
-use Rattle.reader.proofs.read_deadline.Reads as read-deadline-reads
-use Rattle.reader.proofs.read_edges.Reads as read-edges-reads
-use Rattle.reader.proofs.read_prices.Reads as read-prices-reads
-use Rattle.reader.proofs.read_tasks.Reads as read-tasks-reads
-use Rattle.reader.proofs.refused.Reads as refused-reads
-use Rattle.records.proofs.read_header.Reads as read-header-reads
 
 -- What was read of the header; and past each step, what is left to read is the request's answer.
 abbrev headed : tie.After-known-told2 → Headed
@@ -79,45 +70,35 @@ end-left c =
     let before = c .before .before .before in
     part-read _ _ (edges-left (before .before)) _ _ (before .read-edges .ensures) (c .before .closed .given .1)
 
--- src/lib.rt:211:9
 read-header-requires : tie.Need-read-header-requires
 read-header-requires c κs = search needs
 
--- src/lib.rt:212:28
 enum-known-answer : tie.Need-enum-known-answer
 enum-known-answer c = search needs
 
--- src/lib.rt:213:24
 enum-told : tie.Need-enum-told
 enum-told c = search needs
 
--- src/lib.rt:213:24
 handed-up-requires : tie.Need-handed-up-requires
 handed-up-requires c κs = search needs
 
--- src/lib.rt:213:9
 refused-requires : tie.Need-refused-requires
 refused-requires c κs = search needs
 
--- src/lib.rt:213:9
 returns : tie.Need-returns
 returns c =
     header-refused _ _ (c .before .before .before .before .read-header .ensures) (c .before .before .enum-told .given .1)
     (c .refused .ensures ∙ ap refusal-of (c .before .handed-up .ensures))
 
--- src/lib.rt:216:9
 enum-known-found : tie.Need-enum-known-found
 enum-known-found c = search needs
 
--- src/lib.rt:221:24
 handed-up-requires-2 : tie.Need-handed-up-requires-2
 handed-up-requires-2 c κs = search needs
 
--- src/lib.rt:221:9
 refused-requires-2 : tie.Need-refused-requires-2
 refused-requires-2 c κs = search needs
 
--- src/lib.rt:221:9
 returns-2 : tie.Need-returns-2
 returns-2 c =
     let a = c .before .before .before .before .before .before .before .before .args in
@@ -127,99 +108,77 @@ returns-2 c =
     absurd (miss (1 ∷ 2 ∷ 3 ∷ 4 ∷ 5 ∷ 6 ∷ []) 0 tt (due-among (1 ∷ 2 ∷ 3 ∷ 4 ∷ 5 ∷ 6 ∷ []) (answer .given .0 .1 .0)
     (header-found (a .s .now) 0 (sym (ap meant (answer .given .1)) ∙ read-header .ensures)) (match2 .keys2)))
 
--- src/lib.rt:223:9
 read-deadline-requires : tie.Need-read-deadline-requires
 read-deadline-requires c κs = search needs
 
--- src/lib.rt:226:20
 enum-known-dated : tie.Need-enum-known-dated
 enum-known-dated c = search needs
 
--- src/lib.rt:227:9
 enum-told-2 : tie.Need-enum-told-2
 enum-told-2 c = search needs
 
--- src/lib.rt:227:9
 refused-requires-3 : tie.Need-refused-requires-3
 refused-requires-3 c κs = search needs
 
--- src/lib.rt:227:9
 returns-3 : tie.Need-returns-3
 returns-3 c =
     let before = c .before .before .before in
     part-refused _ _ (deadline-left (before .before)) _ _ (before .read-deadline .ensures) (c .before .enum-told2 .given .1) (c .refused3 .ensures)
 
--- src/lib.rt:229:9
 read-prices-requires : tie.Need-read-prices-requires
 read-prices-requires c κs = search needs
 
--- src/lib.rt:230:20
 enum-known-priced : tie.Need-enum-known-priced
 enum-known-priced c = search needs
 
--- src/lib.rt:231:9
 enum-told-3 : tie.Need-enum-told-3
 enum-told-3 c = search needs
 
--- src/lib.rt:231:9
 refused-requires-4 : tie.Need-refused-requires-4
 refused-requires-4 c κs = search needs
 
--- src/lib.rt:231:9
 returns-4 : tie.Need-returns-4
 returns-4 c =
     let before = c .before .before .before in
     part-refused _ _ (prices-left (before .before)) _ _ (before .read-prices .ensures) (c .before .enum-told3 .given .1) (c .refused4 .ensures)
 
--- src/lib.rt:233:9
 read-tasks-requires : tie.Need-read-tasks-requires
 read-tasks-requires c κs = search needs
 
--- src/lib.rt:234:20
 enum-known-worked : tie.Need-enum-known-worked
 enum-known-worked c = search needs
 
--- src/lib.rt:235:9
 enum-told-4 : tie.Need-enum-told-4
 enum-told-4 c = search needs
 
--- src/lib.rt:235:9
 refused-requires-5 : tie.Need-refused-requires-5
 refused-requires-5 c κs = search needs
 
--- src/lib.rt:235:9
 returns-5 : tie.Need-returns-5
 returns-5 c =
     let before = c .before .before .before in
     part-refused _ _ (tasks-left (before .before)) _ _ (before .read-tasks .ensures) (c .before .enum-told4 .given .1) (c .refused5 .ensures)
 
--- src/lib.rt:237:9
 read-edges-requires : tie.Need-read-edges-requires
 read-edges-requires c κs = search needs
 
--- src/lib.rt:239:20
 enum-known-closed : tie.Need-enum-known-closed
 enum-known-closed c = search needs
 
--- src/lib.rt:240:9
 enum-told-5 : tie.Need-enum-told-5
 enum-told-5 c = search needs
 
--- src/lib.rt:240:9
 refused-requires-6 : tie.Need-refused-requires-6
 refused-requires-6 c κs = search needs
 
--- src/lib.rt:240:9
 returns-6 : tie.Need-returns-6
 returns-6 c =
     let before = c .before .before .before in
     part-refused _ _ (edges-left (before .before)) _ _ (before .read-edges .ensures) (c .before .enum-told5 .given .1) (c .refused6 .ensures)
 
--- src/lib.rt:243:9
 returns-7 : tie.Need-returns-7
 returns-7 c = bytes-after _ _ _ (end-left (c .before .before)) (c .if1 .taken)
 
--- src/lib.rt:208:1
 returns-8 : tie.Need-returns-8
 returns-8 c = good-request _ _ _ (end-left (c .before .before)) (c .if1 .left)
 

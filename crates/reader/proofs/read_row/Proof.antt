@@ -8,10 +8,6 @@ use borrow.Author.Needs.{needs}
 use native.Mathlib.Omega.{arith}
 use Rattle.reader.proofs.read_row.Statement.{statement}
 use Rattle.reader.proofs.read_row.Tie as tie
-use Rattle.reader.proofs.read_row.Reads as reads
-use Rattle.reader.proofs.read_row.Lts as lts
-use Rattle.reader.proofs.handed_up.Reads as handed-up-reads
-use Rattle.records.proofs.read_minutes.Reads as read-minutes-reads
 
 abbrev Inv-loop : tie.InvT-loop
 Inv-loop s task m next₀ j₀ next j = Reached (λ at j. minutes-at s at task j) (next₀ .at) m j (next .at)
@@ -19,27 +15,21 @@ Inv-loop s task m next₀ j₀ next j = Reached (λ at j. minutes-at s at task j
 abbrev μ-loop : tie.MeasureT-loop
 μ-loop s task m next₀ j₀ next j = m - j
 
--- src/lib.rt:90:5
 loop-holds : tie.Need-loop-holds Inv-loop μ-loop
 loop-holds c = none-reached
 
--- src/lib.rt:91:13
 read-minutes-requires : tie.Need-read-minutes-requires Inv-loop μ-loop
 read-minutes-requires c κs = search needs
 
--- src/lib.rt:92:32
 enum-known-answer : tie.Need-enum-known-answer Inv-loop μ-loop
 enum-known-answer c = search needs
 
--- src/lib.rt:93:13
 enum-told : tie.Need-enum-told Inv-loop μ-loop
 enum-told c = search needs
 
--- src/lib.rt:93:13
 handed-up-requires : tie.Need-handed-up-requires Inv-loop μ-loop
 handed-up-requires c κs = search needs
 
--- src/lib.rt:93:13
 returns : tie.Need-returns Inv-loop μ-loop
 returns c =
     let answered = c .before .before .before in
@@ -47,22 +37,18 @@ returns c =
     (refused-there (answered .before .before .loop .inv) (answered .before .loop-test .taken) (answered .read-minutes .ensures)
     (ap meant (c .before .enum-told .given .1)))
 
--- src/lib.rt:96:9
 add-j : tie.Need-add-j Inv-loop μ-loop
 add-j c = omega arith
 
--- src/lib.rt:90:5
 loop-less : tie.Need-loop-less Inv-loop μ-loop
 loop-less c = omega arith
 
--- src/lib.rt:90:5
 loop-again : tie.Need-loop-again Inv-loop μ-loop
 loop-again c =
     let answered = c .before .before .before in
     one-more-reached (answered .before .before .loop .inv) (answered .before .loop-test .taken) (answered .read-minutes .ensures)
     (ap meant (c .before .answer .given .1))
 
--- src/lib.rt:85:1
 returns-2 : tie.Need-returns-2 Inv-loop μ-loop
 returns-2 c = all-reached (c .before .loop .inv) (c .loop-test .left)
 

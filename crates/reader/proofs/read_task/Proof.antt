@@ -4,37 +4,26 @@ use borrow.Author.Needs.{needs}
 use Rattle.reader.proofs.read_task.Statement.{statement}
 use Rattle.reader.proofs.read_task.Tie as tie
 use Rattle.reader.proofs.read_task.Reads as reads
-use Rattle.reader.proofs.read_task.Lts as lts
-use Rattle.reader.proofs.handed_up.Reads as handed-up-reads
-use Rattle.reader.proofs.read_row.Reads as read-row-reads
-use Rattle.records.proofs.read_task.Reads as read-task-reads
 
--- src/lib.rt:105:9
 read-task-requires : tie.Need-read-task-requires
 read-task-requires c κs = search needs
 
--- src/lib.rt:106:28
 enum-known-answer : tie.Need-enum-known-answer
 enum-known-answer c = search needs
 
--- src/lib.rt:107:9
 enum-told : tie.Need-enum-told
 enum-told c = search needs
 
--- src/lib.rt:107:9
 handed-up-requires : tie.Need-handed-up-requires
 handed-up-requires c κs = search needs
 
--- src/lib.rt:107:9
 returns : tie.Need-returns
 unfolding task-part then
 returns c = rw (c .handed-up .ensures, ← c .before .before .before .read-task .ensures, c .before .enum-told .given .1)
 
--- src/lib.rt:109:5
 read-row-requires : tie.Need-read-row-requires
 read-row-requires c κs = search needs
 
--- src/lib.rt:102:1
 returns-2 : tie.Need-returns-2
 unfolding task-part then
 returns-2 c = rw (← c .before .before .before .before .read-task .ensures, c .before .before .answer .given .1) (c .read-row .ensures)

@@ -8,9 +8,6 @@ use borrow.Author.Needs.{needs}
 use native.Mathlib.Omega.{arith}
 use Rattle.reader.proofs.read_tasks.Statement.{statement}
 use Rattle.reader.proofs.read_tasks.Tie as tie
-use Rattle.reader.proofs.read_tasks.Reads as reads
-use Rattle.reader.proofs.read_tasks.Lts as lts
-use Rattle.reader.proofs.read_task.Reads as read-task-reads
 
 abbrev Inv-loop : tie.InvT-loop
 Inv-loop s n m next₀ i₀ next i = Reached (task-part s m) (next₀ .at) n i (next .at)
@@ -18,23 +15,18 @@ Inv-loop s n m next₀ i₀ next i = Reached (task-part s m) (next₀ .at) n i (
 abbrev μ-loop : tie.MeasureT-loop
 μ-loop s n m next₀ i₀ next i = n - i
 
--- src/lib.rt:118:5
 loop-holds : tie.Need-loop-holds Inv-loop μ-loop
 loop-holds c = none-reached
 
--- src/lib.rt:119:13
 read-task-requires : tie.Need-read-task-requires Inv-loop μ-loop
 read-task-requires c κs = search needs
 
--- src/lib.rt:120:24
 enum-known-passed : tie.Need-enum-known-passed Inv-loop μ-loop
 enum-known-passed c = search needs
 
--- src/lib.rt:121:13
 enum-told : tie.Need-enum-told Inv-loop μ-loop
 enum-told c = search needs
 
--- src/lib.rt:121:13
 returns : tie.Need-returns Inv-loop μ-loop
 unfolding tasks-part
 returns c =
@@ -43,22 +35,18 @@ returns c =
     (refused-there (passed .before .before .loop .inv) (passed .before .loop-test .taken) (passed .read-task .ensures)
     (ap (λ p. meant-part p tt) (c .enum-told .given .1)))
 
--- src/lib.rt:124:9
 add-i : tie.Need-add-i Inv-loop μ-loop
 add-i c = omega arith
 
--- src/lib.rt:118:5
 loop-less : tie.Need-loop-less Inv-loop μ-loop
 loop-less c = omega arith
 
--- src/lib.rt:118:5
 loop-again : tie.Need-loop-again Inv-loop μ-loop
 loop-again c =
     let passed = c .before .before .before in
     one-more-reached (passed .before .before .loop .inv) (passed .before .loop-test .taken) (passed .read-task .ensures)
     (ap (λ p. meant-part p tt) (c .before .passed .given .1))
 
--- src/lib.rt:113:1
 returns-2 : tie.Need-returns-2 Inv-loop μ-loop
 unfolding tasks-part
 returns-2 c = all-reached (c .before .loop .inv) (c .loop-test .left)

@@ -2,22 +2,16 @@
 use borrow.Author.Needs.{needs}
 use Rattle.reader.proofs.refused.Statement.{statement}
 use Rattle.reader.proofs.refused.Tie as tie
-use Rattle.reader.proofs.refused.Reads as reads
-use Rattle.reader.proofs.refused.Lts as lts
 
--- src/lib.rt:202:20
 enum-known-passed : tie.Need-enum-known-passed
 enum-known-passed c = search needs
 
--- src/lib.rt:203:25
 enum-known-passed-2 : tie.Need-enum-known-passed-2
 enum-known-passed-2 c = search needs
 
--- src/lib.rt:198:1
 returns : tie.Need-returns
 returns c = rw (c .before .passed .given .1)
 
--- src/lib.rt:198:1
 returns-2 : tie.Need-returns-2
 returns-2 c = rw (c .before .passed2 .given .1)
 

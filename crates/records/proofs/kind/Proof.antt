@@ -5,19 +5,14 @@ use Rattle.rules.specs.Fields.{byte}
 use borrow.Author.Needs.{needs}
 use Rattle.records.proofs.kind.Statement.{statement}
 use Rattle.records.proofs.kind.Tie as tie
-use Rattle.records.proofs.kind.Reads as reads
-use Rattle.records.proofs.kind.Lts as lts
 
--- src/lib.rt:54:23
 shared-slice-read-result : tie.Need-shared-slice-read-result
 shared-slice-read-result c = search needs
 
--- src/lib.rt:50:1
 returns : tie.Need-returns
 unfolding byte
 returns c = refl
 
--- src/lib.rt:50:1
 returns-2 : tie.Need-returns-2
 unfolding byte
 returns-2 c = sym (List·getD-eq-default (c .before .args .s .now) 0 (c .if1 .left))

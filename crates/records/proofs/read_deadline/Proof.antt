@@ -10,17 +10,10 @@ use native.Mathlib.Omega.{arith}
 use borrow.Author.Needs.{needs}
 use Rattle.records.proofs.read_deadline.Statement.{statement}
 use Rattle.records.proofs.read_deadline.Tie as tie
-use Rattle.records.proofs.read_deadline.Reads as reads
-use Rattle.records.proofs.read_deadline.Lts as lts
-use Rattle.fields.proofs.four_bytes.Reads as four-bytes-reads
-use Rattle.fields.proofs.opening_fault.Reads as opening-fault-reads
-use Rattle.fields.proofs.outside.Reads as outside-reads
 
--- src/lib.rt:93:9
 opening-fault-requires : tie.Need-opening-fault-requires
 opening-fault-requires c κs = search needs
 
--- src/lib.rt:95:9
 returns : tie.Need-returns
 unfolding deadline-at kind-byte size body
 returns c = refused-at-opening _ _ D (c .before .opening-fault .ensures .0) _ _ (c .if1 .taken)
@@ -29,11 +22,9 @@ returns c = refused-at-opening _ _ D (c .before .opening-fault .ensures .0) _ _ 
 whole : (c : tie.Else1) → let a = c .before .before .before .args in a .c .at + 5 ≤ length (a .s .now)
 whole c = c .before .opening-fault .ensures .1 (c .if1 .left)
 
--- src/lib.rt:97:9
 four-bytes-requires : tie.Need-four-bytes-requires
 four-bytes-requires c κs = omega (arith, whole c)
 
--- src/lib.rt:98:8
 outside-requires : tie.Need-outside-requires
 outside-requires c κs = search needs
 
@@ -48,16 +39,13 @@ by-deadline c =
     answered-by-its-own _ _ D (opened .before .opening-fault .ensures .0) _ _ (opened .if1 .left)
     (simp (← c .before .four-bytes .ensures, c .outside .ensures) (last-check _ _ _ _))
 
--- src/lib.rt:99:9
 returns-2 : tie.Need-returns-2
 unfolding unless answered
 returns-2 c = rw (c .if2 .taken) at (by-deadline (c .before))
 
--- src/lib.rt:101:37
 add-t8 : tie.Need-add-t8
 add-t8 c = omega (arith, whole (c .before .before .before))
 
--- src/lib.rt:89:1
 returns-3 : tie.Need-returns-3
 unfolding unless answered
 returns-3 c = rw (c .if2 .left) at (by-deadline (c .before))

@@ -10,18 +10,10 @@ use native.Mathlib.Omega.{arith}
 use borrow.Author.Needs.{needs}
 use Rattle.records.proofs.read_header.Statement.{statement}
 use Rattle.records.proofs.read_header.Tie as tie
-use Rattle.records.proofs.read_header.Reads as reads
-use Rattle.records.proofs.read_header.Lts as lts
-use Rattle.fields.proofs.field.Reads as field-reads
-use Rattle.fields.proofs.four_bytes.Reads as four-bytes-reads
-use Rattle.fields.proofs.opening_fault.Reads as opening-fault-reads
-use Rattle.fields.proofs.outside.Reads as outside-reads
 
--- src/lib.rt:62:9
 opening-fault-requires : tie.Need-opening-fault-requires
 opening-fault-requires c κs = search needs
 
--- src/lib.rt:64:9
 returns : tie.Need-returns
 unfolding header-at kind-byte size body
 returns c = refused-at-opening _ _ H (c .before .opening-fault .ensures .0) _ _ (c .if1 .taken)
@@ -30,23 +22,18 @@ returns c = refused-at-opening _ _ H (c .before .opening-fault .ensures .0) _ _ 
 whole : (c : tie.Else1) → let a = c .before .before .before .args in a .c .at + 7 ≤ length (a .s .now)
 whole c = c .before .opening-fault .ensures .1 (c .if1 .left)
 
--- src/lib.rt:66:9
 field-requires : tie.Need-field-requires
 field-requires c κs = omega (arith, whole c)
 
--- src/lib.rt:67:9
 field-requires-2 : tie.Need-field-requires-2
 field-requires-2 c κs = omega (arith, whole (c .before))
 
--- src/lib.rt:68:9
 four-bytes-requires : tie.Need-four-bytes-requires
 four-bytes-requires c κs = omega (arith, whole (c .before .before))
 
--- src/lib.rt:69:8
 outside-requires : tie.Need-outside-requires
 outside-requires c κs = search needs
 
--- src/lib.rt:70:9
 returns-2 : tie.Need-returns-2
 unfolding header-at H-tasks unless first-fault answered kind-byte size body
 returns-2 c =
@@ -54,11 +41,9 @@ returns-2 c =
     answered-by-its-own _ _ H (opened .before .opening-fault .ensures .0) _ _ (opened .if1 .left)
     (simp (← c .before .before .before .before .field .ensures .0, c .before .outside .ensures, c .if2 .taken))
 
--- src/lib.rt:72:8
 outside-requires-2 : tie.Need-outside-requires-2
 outside-requires-2 c κs = search needs
 
--- src/lib.rt:73:9
 returns-3 : tie.Need-returns-3
 unfolding header-at H-tasks H-processors unless first-fault answered kind-byte size body
 returns-3 c =
@@ -75,7 +60,6 @@ returns-3 c =
       c .if3 .taken,
     ))
 
--- src/lib.rt:75:8
 outside-requires-3 : tie.Need-outside-requires-3
 outside-requires-3 c κs = search needs
 
@@ -104,16 +88,13 @@ by-budget c =
     )
     (last-check _ _ _ _))
 
--- src/lib.rt:76:9
 returns-4 : tie.Need-returns-4
 unfolding unless answered
 returns-4 c = rw (c .if4 .taken) at (by-budget (c .before))
 
--- src/lib.rt:79:22
 add-t13 : tie.Need-add-t13
 add-t13 c = omega (arith, whole (c .before .before .before .before .before .before .before .before .before))
 
--- src/lib.rt:58:1
 returns-5 : tie.Need-returns-5
 unfolding unless answered
 returns-5 c = rw (c .if4 .left) at (by-budget (c .before))

@@ -11,18 +11,10 @@ use native.Mathlib.Omega.{arith}
 use borrow.Author.Needs.{needs}
 use Rattle.records.proofs.read_minutes.Statement.{statement}
 use Rattle.records.proofs.read_minutes.Tie as tie
-use Rattle.records.proofs.read_minutes.Reads as reads
-use Rattle.records.proofs.read_minutes.Lts as lts
-use Rattle.fields.proofs.field.Reads as field-reads
-use Rattle.fields.proofs.opening_fault.Reads as opening-fault-reads
-use Rattle.fields.proofs.outside.Reads as outside-reads
-use Rattle.fields.proofs.two_bytes.Reads as two-bytes-reads
 
--- src/lib.rt:150:9
 opening-fault-requires : tie.Need-opening-fault-requires
 opening-fault-requires c κs = search needs
 
--- src/lib.rt:152:9
 returns : tie.Need-returns
 unfolding minutes-at kind-byte size body
 returns c = refused-at-opening _ _ W (c .before .opening-fault .ensures .0) _ _ (c .if1 .taken)
@@ -31,19 +23,15 @@ returns c = refused-at-opening _ _ W (c .before .opening-fault .ensures .0) _ _ 
 whole : (c : tie.Else1) → let a = c .before .before .before .args in a .c .at + 5 ≤ length (a .s .now)
 whole c = c .before .opening-fault .ensures .1 (c .if1 .left)
 
--- src/lib.rt:154:9
 field-requires : tie.Need-field-requires
 field-requires c κs = omega (arith, whole c)
 
--- src/lib.rt:155:9
 field-requires-2 : tie.Need-field-requires-2
 field-requires-2 c κs = omega (arith, whole (c .before))
 
--- src/lib.rt:156:9
 two-bytes-requires : tie.Need-two-bytes-requires
 two-bytes-requires c κs = omega (arith, whole (c .before .before))
 
--- src/lib.rt:158:9
 returns-2 : tie.Need-returns-2
 unfolding minutes-at W-task unless first-fault answered kind-byte size body
 returns-2 c =
@@ -51,7 +39,6 @@ returns-2 c =
     answered-by-its-own _ _ W (opened .before .opening-fault .ensures .0) _ _ (opened .if1 .left)
     (simp (← c .before .before .before .field .ensures .0, ne-eqb _ _ (c .if2 .taken)))
 
--- src/lib.rt:161:9
 returns-3 : tie.Need-returns-3
 unfolding minutes-at W-task W-processor unless first-fault answered kind-byte size body
 returns-3 c =
@@ -65,7 +52,6 @@ returns-3 c =
       ne-eqb _ _ (c .if3 .taken),
     ))
 
--- src/lib.rt:163:8
 outside-requires : tie.Need-outside-requires
 outside-requires c κs = search needs
 
@@ -91,16 +77,13 @@ by-minutes c =
     )
     (last-check _ _ _ _))
 
--- src/lib.rt:164:9
 returns-4 : tie.Need-returns-4
 unfolding unless answered
 returns-4 c = rw (c .if4 .taken) at (by-minutes (c .before))
 
--- src/lib.rt:167:22
 add-t12 : tie.Need-add-t12
 add-t12 c = omega (arith, whole (c .before .before .before .before .before .before .before))
 
--- src/lib.rt:146:1
 returns-5 : tie.Need-returns-5
 unfolding unless answered
 returns-5 c = rw (c .if4 .left) at (by-minutes (c .before))

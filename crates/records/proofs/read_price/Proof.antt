@@ -11,17 +11,10 @@ use native.Mathlib.Omega.{arith}
 use borrow.Author.Needs.{needs}
 use Rattle.records.proofs.read_price.Statement.{statement}
 use Rattle.records.proofs.read_price.Tie as tie
-use Rattle.records.proofs.read_price.Reads as reads
-use Rattle.records.proofs.read_price.Lts as lts
-use Rattle.fields.proofs.field.Reads as field-reads
-use Rattle.fields.proofs.opening_fault.Reads as opening-fault-reads
-use Rattle.fields.proofs.outside.Reads as outside-reads
 
--- src/lib.rt:109:9
 opening-fault-requires : tie.Need-opening-fault-requires
 opening-fault-requires c κs = search needs
 
--- src/lib.rt:111:9
 returns : tie.Need-returns
 unfolding price-at kind-byte size body
 returns c = refused-at-opening _ _ P (c .before .opening-fault .ensures .0) _ _ (c .if1 .taken)
@@ -30,15 +23,12 @@ returns c = refused-at-opening _ _ P (c .before .opening-fault .ensures .0) _ _ 
 whole : (c : tie.Else1) → let a = c .before .before .before .args in a .c .at + 3 ≤ length (a .s .now)
 whole c = c .before .opening-fault .ensures .1 (c .if1 .left)
 
--- src/lib.rt:113:9
 field-requires : tie.Need-field-requires
 field-requires c κs = omega (arith, whole c)
 
--- src/lib.rt:114:17
 field-requires-2 : tie.Need-field-requires-2
 field-requires-2 c κs = omega (arith, whole (c .before))
 
--- src/lib.rt:116:9
 returns-2 : tie.Need-returns-2
 unfolding price-at P-processor unless first-fault answered kind-byte size body
 returns-2 c =
@@ -46,7 +36,6 @@ returns-2 c =
     answered-by-its-own _ _ P (opened .before .opening-fault .ensures .0) _ _ (opened .if1 .left)
     (simp (← c .before .before .field .ensures .0, ne-eqb _ _ (c .if2 .taken)))
 
--- src/lib.rt:118:8
 outside-requires : tie.Need-outside-requires
 outside-requires c κs = search needs
 
@@ -64,16 +53,13 @@ by-price c =
     (simp (← fields .before .field .ensures .0, ← fields .field2 .ensures .0, eq-eqb _ _ (c .before .if2 .left), c .outside .ensures)
     (last-check _ _ _ _))
 
--- src/lib.rt:119:9
 returns-3 : tie.Need-returns-3
 unfolding unless answered
 returns-3 c = rw (c .if3 .taken) at (by-price (c .before))
 
--- src/lib.rt:121:37
 add-t9 : tie.Need-add-t9
 add-t9 c = omega (arith, whole (c .before .before .before .before .before))
 
--- src/lib.rt:105:1
 returns-4 : tie.Need-returns-4
 unfolding unless answered
 returns-4 c = rw (c .if3 .left) at (by-price (c .before))

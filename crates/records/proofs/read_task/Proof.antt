@@ -11,17 +11,10 @@ use native.Mathlib.Omega.{arith}
 use borrow.Author.Needs.{needs}
 use Rattle.records.proofs.read_task.Statement.{statement}
 use Rattle.records.proofs.read_task.Tie as tie
-use Rattle.records.proofs.read_task.Reads as reads
-use Rattle.records.proofs.read_task.Lts as lts
-use Rattle.label.proofs.is_label.Reads as is-label-reads
-use Rattle.fields.proofs.field.Reads as field-reads
-use Rattle.fields.proofs.opening_fault.Reads as opening-fault-reads
 
--- src/lib.rt:129:9
 opening-fault-requires : tie.Need-opening-fault-requires
 opening-fault-requires c κs = search needs
 
--- src/lib.rt:131:9
 returns : tie.Need-returns
 unfolding task-at kind-byte size body
 returns c = refused-at-opening _ _ T (c .before .opening-fault .ensures .0) _ _ (c .if1 .taken)
@@ -30,11 +23,9 @@ returns c = refused-at-opening _ _ T (c .before .opening-fault .ensures .0) _ _ 
 whole : (c : tie.Else1) → let a = c .before .before .before .args in a .c .at + 10 ≤ length (a .s .now)
 whole c = c .before .opening-fault .ensures .1 (c .if1 .left)
 
--- src/lib.rt:133:9
 field-requires : tie.Need-field-requires
 field-requires c κs = omega (arith, whole c)
 
--- src/lib.rt:135:9
 returns-2 : tie.Need-returns-2
 unfolding task-at T-task unless first-fault answered kind-byte size body
 returns-2 c =
@@ -42,15 +33,12 @@ returns-2 c =
     answered-by-its-own _ _ T (opened .before .opening-fault .ensures .0) _ _ (opened .if1 .left)
     (simp (← c .before .field .ensures .0, ne-eqb _ _ (c .if2 .taken)))
 
--- src/lib.rt:137:17
 add-label : tie.Need-add-label
 add-label c = omega (arith, whole (c .before .before))
 
--- src/lib.rt:138:8
 is-label-requires : tie.Need-is-label-requires
 is-label-requires c κs = search needs
 
--- src/lib.rt:139:41
 add-t11 : tie.Need-add-t11
 add-t11 c = omega (arith, whole (c .before .before .before .before))
 
@@ -67,12 +55,10 @@ by-label c =
     answered-by-its-own _ _ T (opened .before .opening-fault .ensures .0) _ _ (opened .if1 .left)
     (simp (← field .ensures .0, eq-eqb _ _ (c .before .if2 .left), sym (told-is-one-or-more (c .is-label .ensures))) (last-check _ _ _ _))
 
--- src/lib.rt:125:1
 returns-3 : tie.Need-returns-3
 unfolding unless answered
 returns-3 c = rw (c .if3 .taken) at (by-label (c .before))
 
--- src/lib.rt:125:1
 returns-4 : tie.Need-returns-4
 unfolding unless answered
 returns-4 c = rw (c .if3 .left) at (by-label (c .before))

@@ -8,10 +8,6 @@ use Rattle.text.specs.Printing.{printed-nothing, printed-whole}
 use borrow.Author.Needs.{needs}
 use Rattle.text.proofs.print.Statement.{statement}
 use Rattle.text.proofs.print.Tie as tie
-use Rattle.text.proofs.print.Reads as reads
-use Rattle.text.proofs.print.Lts as lts
-use Rattle.decimals.proofs.put_bytes.Reads as put-bytes-reads
-use Rattle.text.proofs.put_text.Reads as put-text-reads
 
 text-long : (c : tie.After-put-text) → c .put-text .result ≡ length (text (c .before .before .before .before .args .request .now))
 text-long c = omega (arith, c .put-text .ensures .ends)
@@ -20,42 +16,34 @@ text-there : (c : tie.After-put-text) →
     take (c .put-text .result) (c .put-text .last .0) ≡ text (c .before .before .before .before .args .request .now)
 text-there c = c .put-text .ensures .front
 
--- src/lib.rt:64:22
 slice-aggregate-put-text : tie.Need-slice-aggregate-put-text
 slice-aggregate-put-text c = search needs
 
--- src/lib.rt:64:9
 put-text-requires : tie.Need-put-text-requires
 put-text-requires c κs = search needs
 
--- src/lib.rt:67:9
 returns : tie.Need-returns
 returns c =
     let start = c .before .before .before .before .before .before in
     printed-nothing (start .args .request .now) (start .args .out .now) (text-long (c .before .before)) (c .if1 .taken)
 
--- src/lib.rt:69:38
 array-share-prefix-whole : tie.Need-array-share-prefix-whole
 array-share-prefix-whole c =
     let put-text = c .before .before .before in
     let size = put-text .put-text .kept .0 in
     omega (arith, size, text-long put-text, text-at-most (put-text .before .before .before .before .args .request .now))
 
--- src/lib.rt:69:38
 slice-aggregate-put-bytes : tie.Need-slice-aggregate-put-bytes
 slice-aggregate-put-bytes c = let put-text = c .before .before .before .before in text-long put-text ∙ ap length (sym (text-there put-text))
 
--- src/lib.rt:69:20
 put-bytes-requires : tie.Need-put-bytes-requires
 put-bytes-requires c κs =
     let put-text = c .before .before .before .before in
     rw (text-there put-text) (record { fits = omega (arith, text-long put-text, c .before .before .if1 .left) })
 
--- src/lib.rt:60:1
 same-length : tie.Need-same-length
 same-length c = search needs
 
--- src/lib.rt:60:1
 returns-2 : tie.Need-returns-2
 returns-2 c =
     let fits = c .before .before .before .before .before in

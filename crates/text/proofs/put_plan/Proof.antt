@@ -16,12 +16,6 @@ use native.Mathlib.Omega.{arith}
 use borrow.Author.Needs.{needs}
 use Rattle.text.proofs.put_plan.Statement.{statement}
 use Rattle.text.proofs.put_plan.Tie as tie
-use Rattle.text.proofs.put_plan.Reads as reads
-use Rattle.text.proofs.put_plan.Lts as lts
-use Rattle.planner.proofs.plan_good.Reads as plan-good-reads
-use Rattle.planner.proofs.rows_of.Reads as rows-of-reads
-use Rattle.lines.proofs.put_first_line.Reads as put-first-line-reads
-use Rattle.lines.proofs.put_rows.Reads as put-rows-reads
 
 parts : (c : tie.After-plan-good) →
     let p = c .plan-good .result in
@@ -39,19 +33,15 @@ room c =
     let start = c .before .before .before in
     rw (parts c) at (room-for-text (start .args .s .now) (start .args .out .now) (start .pre .1))
 
--- src/lib.rt:24:13
 plan-good-requires : tie.Need-plan-good-requires
 plan-good-requires c κs = search needs
 
--- src/lib.rt:26:9
 put-first-line-requires : tie.Need-put-first-line-requires
 put-first-line-requires c κs = room-first _ (room (c .before))
 
--- src/lib.rt:27:13
 rows-of-requires : tie.Need-rows-of-requires
 rows-of-requires c κs = search needs
 
--- src/lib.rt:28:5
 put-rows-requires : tie.Need-put-rows-requires
 unfolding workflow
 put-rows-requires c κs =
@@ -68,11 +58,9 @@ put-rows-requires c κs =
       ),
     )
 
--- src/lib.rt:19:1
 same-length : tie.Need-same-length
 same-length c = search needs
 
--- src/lib.rt:19:1
 returns : tie.Need-returns
 returns c =
     let written = c .before .before in

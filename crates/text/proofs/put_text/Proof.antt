@@ -9,11 +9,6 @@ use Rattle.text.specs.TextParts.{refused-text}
 use borrow.Author.Needs.{needs}
 use Rattle.text.proofs.put_text.Statement.{statement}
 use Rattle.text.proofs.put_text.Tie as tie
-use Rattle.text.proofs.put_text.Reads as reads
-use Rattle.text.proofs.put_text.Lts as lts
-use Rattle.reader.proofs.read_request.Reads as read-request-reads
-use Rattle.lines.proofs.put_first_line.Reads as put-first-line-reads
-use Rattle.text.proofs.put_plan.Reads as put-plan-reads
 
 refusal-is : (c : tie.After-reading2) →
     let given = c .reading2 .given .0 in
@@ -22,26 +17,21 @@ refusal-is c =
     sym (c .before .before .read-request .ensures)
     ∙ ap (meant-reading (c .before .before .before .before .before .args .request .now)) (c .reading2 .given .1)
 
--- src/lib.rt:46:9
 read-request-requires : tie.Need-read-request-requires
 read-request-requires c κs = search needs
 
--- src/lib.rt:48:23
 enum-known-reading : tie.Need-enum-known-reading
 enum-known-reading c = search needs
 
--- src/lib.rt:48:29
 put-plan-requires : tie.Need-put-plan-requires
 put-plan-requires c κs =
     let start = c .before .before .before .before .before .before .before in
     let s = start .args .request .now in
     (sym (c .before .before .before .before .read-request .ensures) ∙ ap (meant-reading s) (c .before .before .reading .given .1), start .pre)
 
--- src/lib.rt:49:26
 enum-known-reading-2 : tie.Need-enum-known-reading-2
 enum-known-reading-2 c = search needs
 
--- src/lib.rt:49:44
 put-first-line-requires : tie.Need-put-first-line-requires
 unfolding meant-answer
 put-first-line-requires c κs =
@@ -50,19 +40,15 @@ put-first-line-requires c κs =
     let s = start .args .request .now in
     rw (refused-text s (refusal-is told)) at (room-for-text s (start .args .out .now) (start .pre))
 
--- src/lib.rt:42:1
 same-length : tie.Need-same-length
 same-length c = search needs
 
--- src/lib.rt:42:1
 returns : tie.Need-returns
 returns c = search needs
 
--- src/lib.rt:42:1
 same-length-2 : tie.Need-same-length-2
 same-length-2 c = search needs
 
--- src/lib.rt:42:1
 returns-2 : tie.Need-returns-2
 unfolding meant-answer
 returns-2 c =

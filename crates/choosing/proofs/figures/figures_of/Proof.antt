@@ -8,9 +8,6 @@ use borrow.Author.Needs.{needs}
 use native.Mathlib.Omega.{arith}
 use Rattle.choosing.proofs.figures.figures_of.Statement.{statement}
 use Rattle.choosing.proofs.figures.figures_of.Tie as tie
-use Rattle.choosing.proofs.figures.figures_of.Reads as reads
-use Rattle.choosing.proofs.figures.figures_of.Lts as lts
-use Rattle.choosing.proofs.figures.passed.Reads as passed-reads
 
 abbrev Inv-loop : tie.InvT-loop
 Inv-loop m costs finishes rb rcb cost finish g₀ j₀ g j = (j ≤ m) × FiguresOf (asked m costs finishes rb rcb) j g
@@ -18,53 +15,41 @@ Inv-loop m costs finishes rb rcb cost finish g₀ j₀ g j = (j ≤ m) × Figure
 abbrev μ-loop : tie.MeasureT-loop
 μ-loop m costs finishes rb rcb cost finish g₀ j₀ g j = m - j
 
--- src/figures.rt:54:16
 element-copy-out-cost : tie.Need-element-copy-out-cost Inv-loop μ-loop
 element-copy-out-cost c = search needs
 
--- src/figures.rt:55:18
 element-copy-out-finish : tie.Need-element-copy-out-finish Inv-loop μ-loop
 element-copy-out-finish c = search needs
 
--- src/figures.rt:66:5
 loop-holds : tie.Need-loop-holds Inv-loop μ-loop
 loop-holds c = (c .before .before .pre .0, figures-first _ _ refl refl refl refl refl refl refl)
 
--- src/figures.rt:67:23
 mul-passed : tie.Need-mul-passed Inv-loop μ-loop
 mul-passed c = search needs
 
--- src/figures.rt:67:23
 element-copy-out-passed : tie.Need-element-copy-out-passed Inv-loop μ-loop
 element-copy-out-passed c = search needs
 
--- src/figures.rt:67:33
 mul-passed-2 : tie.Need-mul-passed-2 Inv-loop μ-loop
 mul-passed-2 c = search needs
 
--- src/figures.rt:67:33
 element-copy-out-passed-2 : tie.Need-element-copy-out-passed-2 Inv-loop μ-loop
 element-copy-out-passed-2 c = search needs
 
--- src/figures.rt:67:9
 passed-requires : tie.Need-passed-requires Inv-loop μ-loop
 passed-requires c κs = search needs
 
--- src/figures.rt:68:9
 add-j : tie.Need-add-j Inv-loop μ-loop
 add-j c = search needs
 
--- src/figures.rt:66:5
 loop-less : tie.Need-loop-less Inv-loop μ-loop
 loop-less c = search needs
 
--- src/figures.rt:66:5
 loop-again : tie.Need-loop-again Inv-loop μ-loop
 loop-again c =
     let loop = c .before .before .before .before .loop in
     (omega arith, figures-next _ _ _ (loop .inv .1) (c .passed .ensures))
 
--- src/figures.rt:50:1
 returns : tie.Need-returns Inv-loop μ-loop
 returns c =
     let a = c .before .before .before .before .args in

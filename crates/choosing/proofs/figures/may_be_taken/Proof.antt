@@ -4,22 +4,16 @@ use Rattle.choosing.specs.Figured.{may-by}
 use borrow.Author.Needs.{needs}
 use Rattle.choosing.proofs.figures.may_be_taken.Statement.{statement}
 use Rattle.choosing.proofs.figures.may_be_taken.Tie as tie
-use Rattle.choosing.proofs.figures.may_be_taken.Reads as reads
-use Rattle.choosing.proofs.figures.may_be_taken.Lts as lts
-use Rattle.choosing.proofs.figures.affordable.Reads as affordable-reads
 
--- src/figures.rt:87:9
 returns : tie.Need-returns
 unfolding may-by
 returns c =
     let a = c .before .before .args in
     rw (lt-leb (a .cost) (a .g .best) (c .if1 .taken))
 
--- src/figures.rt:89:5
 affordable-requires : tie.Need-affordable-requires
 affordable-requires c κs = search needs
 
--- src/figures.rt:82:1
 returns-2 : tie.Need-returns-2
 unfolding may-by
 returns-2 c =

@@ -4,29 +4,21 @@ use native.Mathlib.Omega.{arith}
 use borrow.Author.Needs.{needs}
 use Rattle.choosing.proofs.figures.score.Statement.{statement}
 use Rattle.choosing.proofs.figures.score.Tie as tie
-use Rattle.choosing.proofs.figures.score.Reads as reads
-use Rattle.choosing.proofs.figures.score.Lts as lts
-use Rattle.numbers.proofs.less.Reads as less-reads
 
--- src/figures.rt:119:5
 less-requires : tie.Need-less-requires
 less-requires c κs = search needs
 
--- src/figures.rt:119:5
 mul-result : tie.Need-mul-result
 mul-result c = omega (arith, saved-part-at-most _ _ (c .before .before .pre .1) (c .before .less .result) (omega arith))
 
--- src/figures.rt:119:45
 less-requires-2 : tie.Need-less-requires-2
 less-requires-2 c κs = search needs
 
--- src/figures.rt:119:45
 mul-result-2 : tie.Need-mul-result-2
 mul-result-2 c =
     let pre = c .before .before .before .before .pre in
     omega (arith, early-part-at-most _ _ (pre .1) (c .before .less2 .result) (omega arith))
 
--- src/figures.rt:119:5
 add-result : tie.Need-add-result
 add-result c =
     let pre = c .before .before .before .before .pre in
@@ -34,7 +26,6 @@ add-result c =
     let early = early-part-at-most _ _ (pre .1) (c .before .less2 .result) (omega arith) in
     omega arith
 
--- src/figures.rt:114:1
 returns : tie.Need-returns
 returns c =
     let pre = c .before .before .before .before .pre in

@@ -6,29 +6,19 @@ use Rattle.choosing.specs.Figured.{standing-by}
 use borrow.Author.Needs.{needs}
 use Rattle.choosing.proofs.figures.standing.Statement.{statement}
 use Rattle.choosing.proofs.figures.standing.Tie as tie
-use Rattle.choosing.proofs.figures.standing.Reads as reads
-use Rattle.choosing.proofs.figures.standing.Lts as lts
-use Rattle.choosing.proofs.figures.may_be_taken.Reads as may-be-taken-reads
-use Rattle.choosing.proofs.figures.score.Reads as score-reads
-use Rattle.numbers.proofs.either.Reads as either-reads
 
--- src/figures.rt:129:17
 score-requires : tie.Need-score-requires
 score-requires c κs = search needs
 
--- src/figures.rt:129:17
 add-above : tie.Need-add-above
 add-above c = search needs
 
--- src/figures.rt:130:21
 may-be-taken-requires : tie.Need-may-be-taken-requires
 may-be-taken-requires c κs = search needs
 
--- src/figures.rt:130:5
 either-requires : tie.Need-either-requires
 either-requires c κs = search needs
 
--- src/figures.rt:123:1
 returns : tie.Need-returns
 unfolding standing-by
 returns c =

@@ -7,32 +7,22 @@ use native.Mathlib.Omega.{arith}
 use borrow.Author.Needs.{needs}
 use Rattle.choosing.proofs.figures.weights_of.Statement.{statement}
 use Rattle.choosing.proofs.figures.weights_of.Tie as tie
-use Rattle.choosing.proofs.figures.weights_of.Reads as reads
-use Rattle.choosing.proofs.figures.weights_of.Lts as lts
-use Rattle.numbers.proofs.less.Reads as less-reads
-use Rattle.numbers.proofs.or_one.Reads as or-one-reads
 
--- src/figures.rt:104:29
 less-requires : tie.Need-less-requires
 less-requires c κs = search needs
 
--- src/figures.rt:104:9
 or-one-requires : tie.Need-or-one-requires
 or-one-requires c κs = search needs
 
--- src/figures.rt:105:29
 less-requires-2 : tie.Need-less-requires-2
 less-requires-2 c κs = search needs
 
--- src/figures.rt:105:9
 or-one-requires-2 : tie.Need-or-one-requires-2
 or-one-requires-2 c κs = search needs
 
--- src/figures.rt:106:9
 or-one-requires-3 : tie.Need-or-one-requires-3
 or-one-requires-3 c κs = search needs
 
--- src/figures.rt:108:16
 mul-t6 : tie.Need-mul-t6
 mul-t6 c =
     let a = c .before .before .before .before .before .args in
@@ -40,14 +30,12 @@ mul-t6 c =
     let less = c .before .before .before .before .less in
     omega (arith, saved-at-most (a .g) pre (c .before .before .before .or-one .ensures ∙ ap or-one (less .ensures)))
 
--- src/figures.rt:109:16
 mul-t7 : tie.Need-mul-t7
 mul-t7 c =
     let a = c .before .before .before .before .before .args in
     let pre = c .before .before .before .before .before .pre in
     omega (arith, early-at-most (a .g) pre (c .before .or-one2 .ensures ∙ ap or-one (c .before .before .less2 .ensures)) (c .or-one3 .ensures))
 
--- src/figures.rt:99:1
 returns : tie.Need-returns
 returns c =
     let a = c .before .before .before .before .before .args in
