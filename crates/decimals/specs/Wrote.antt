@@ -3,6 +3,7 @@ use Prim.Native.Nat.{ℕ, _+_, _≤_}
 use mathlib.Core.Path.{_≡_, refl, sym, ap, _∙_}
 use mathlib.Core.List.{List, [], _∷_, _++_, append-assoc, append-nil}
 use native.Mathlib.Omega.{arith}
+use native.Mathlib.Nat.{zero-add}
 use native.Mathlib.Numerals.{add-one}
 use lib.ListN.{length, take, drop, set, length-append, length-take, length-drop, take-append-drop}
 use lib.Seq.{take-suc-set, drop-set-lt, drop-drop}
@@ -54,11 +55,19 @@ wrote-length {out} {t} {out′} {at} {end} room w =
       length-drop end out,
     )
 
--- Written from the start on: the bytes, and past them what stood there.
+-- What stood before, the bytes, and what stood past them.
+wrote-all : {out t out′ : List ℕ} {at end : ℕ} → Wrote out at t out′ end → out′ ≡ (take at out ++ t) ++ drop (at + length t) out
+wrote-all {out} {t} {out′} {at} {end} w =
+    sym (take-append-drop end out′)
+    ∙ ap (λ xs. xs ++ drop end out′) (w .front)
+    ∙ ap (λ xs. (take at out ++ t) ++ xs) (w .rest ∙ ap (λ n. drop n out) (w .ends))
+
 pub wrote-from-start : {out t out′ : List ℕ} {end : ℕ} → Wrote out 0 t out′ end → out′ ≡ t ++ drop (length t) out
-wrote-from-start {out} {t} {out′} {end} w =
-    let long : end ≡ length t = omega (arith, w .ends) in
-    sym (take-append-drop end out′) ∙ ap (λ xs. xs ++ drop end out′) (w .front) ∙ ap (λ xs. t ++ xs) (w .rest ∙ ap (λ n. drop n out) long)
+wrote-from-start {out} {t} w = wrote-all w ∙ ap (λ n. t ++ drop n out) (zero-add (length t))
+
+-- Two exits of the buffer, and two ends, that such a contract allows are one.
+pub wrote-settled : {out t a b : List ℕ} {at e f : ℕ} → Wrote out at t a e → Wrote out at t b f → (a ≡ b) × (e ≡ f)
+wrote-settled one other = (wrote-all one ∙ sym (wrote-all other), one .ends ∙ sym (other .ends))
 
 -- Room for two writes: for the first, and then for the second.
 pub room-first : {out t : List ℕ} {at : ℕ} (u : List ℕ) → Room out at (t ++ u) → Room out at t

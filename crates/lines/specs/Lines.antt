@@ -18,6 +18,15 @@ unfoldable pub column-line : (s processors starts finishes costs : List ℕ) →
 column-line s processors starts finishes costs i =
     row-line (label s i) (record { processor = at processors i; start = at starts i; finish = at finishes i; cost = at costs i })
 
+-- The lines of the first n tasks.
+abbrev pub column-lines : ℕ → (s processors starts finishes costs : List ℕ) → List ℕ
+column-lines n s processors starts finishes costs = lines n (column-line s processors starts finishes costs)
+
+-- The line of a task, of its label and its row's four numbers.
+abbrev pub fields-line : List ℕ → (processor start finish cost : ℕ) → List ℕ
+fields-line label processor start finish cost =
+    row-line label (record { processor = processor; start = start; finish = finish; cost = cost })
+
 pub refusal-line : (number place : ℕ) → first-line (refused number place) ≡ bytes "no " ++ (field number 32 ++ field place 10)
 unfolding first-line line bytes
 refusal-line number place = simp append-assoc

@@ -1,10 +1,10 @@
 // The lines of the printed plan, written over a lent buffer: the first line, and those of the rows.
 ghost use Prim.Native.Nat.{_≤_};
-ghost use Rattle.rules.specs.Text.{first-line, row-line, lines};
+ghost use Rattle.rules.specs.Text.{first-line};
 ghost use Rattle.reader.specs.Meaning.{ViewOf};
 ghost use Rattle.planner.specs.Planned.{meant-answer};
 ghost use Rattle.decimals.specs.Wrote.{Room, Wrote};
-ghost use Rattle.lines.specs.Lines.{column-line};
+ghost use Rattle.lines.specs.Lines.{column-lines, fields-line};
 use planner::Answer;
 use reader::View;
 
@@ -41,10 +41,8 @@ fn put_row(
     finish: u64,
     cost: u64,
 ) -> usize
-    requires { ⌜ Room (now out) at (row-line (now name) (record { processor = processor; start = start; finish = finish; cost = cost })) ⌝ }
-    ensures { λ r.
-        ⌜ Wrote (now (out .entry)) at
-        (row-line (now (name .entry)) (record { processor = processor; start = start; finish = finish; cost = cost })) (now (out .exit)) r ⌝ }
+    requires { ⌜ Room (now out) at (fields-line (now name) processor start finish cost) ⌝ }
+    ensures { λ r. ⌜ Wrote (now (out .entry)) at (fields-line (now (name .entry)) processor start finish cost) (now (out .exit)) r ⌝ }
 {
     let named = decimals::put_bytes(out, at, name);
     let parted = decimals::put_byte(out, named, b' ');
@@ -65,12 +63,8 @@ pub fn put_rows<'a>(
 ) -> usize
     requires { ⌜ ViewOf (now s) v ⌝ }
     requires { ⌜ n ≤ v .tasks ⌝ }
-    requires { ⌜ Room (now out) at (lines n (column-line (now s) (now processors) (now starts) (now finishes) (now costs))) ⌝ }
-    ensures { λ r.
-        ⌜ Wrote (now (out .entry)) at
-        (lines n
-        (column-line (now (s .entry)) (now (processors .entry)) (now (starts .entry)) (now (finishes .entry)) (now (costs .entry))))
-        (now (out .exit)) r ⌝ }
+    requires { ⌜ Room (now out) at (column-lines n (now s) (now processors) (now starts) (now finishes) (now costs)) ⌝ }
+    ensures { λ r. ⌜ Wrote (now (out .entry)) at (column-lines n (now (s .entry)) (now (processors .entry)) (now (starts .entry)) (now (finishes .entry)) (now (costs .entry))) (now (out .exit)) r ⌝ }
 {
     let mut end = at;
     let mut i = 0;
