@@ -4,7 +4,8 @@ use mathlib.Core.Path.{_≡_, refl}
 use mathlib.Core.List.{List, [], _∷_, _++_}
 use lib.ListN.{take}
 use Rattle.rules.specs.Labels.{empty-start, label-lookup, label}
-use Rattle.rules.specs.Answer.{planned}
+use Rattle.rules.specs.Answer.{planned, refused, answer}
+use Rattle.rules.specs.Buffers.{Buffers, rows-lent, row-in, column-after, buffers-written, buffers-after}
 use Rattle.rules.specs.Text.{bytes}
 use Rattle.rules.specs.Cases.{H-record, D-record, P-record, T-record, W-record, E-record, row, Case, refused-case, planned-case, given, All-given}
 
@@ -86,3 +87,16 @@ pub looked-up :
     × (label-lookup (take 40 (two-tasks [])) 0 ≡ empty-start)
 unfolding given two-tasks
 looked-up = (refl, refl, refl, refl, refl)
+
+-- Four buffers of different lengths: a plan of two tasks where the shortest has two numbers, with what is after them kept; refusal 7 where it has one.
+abbrev lent-buffers : List ℕ → Buffers
+lent-buffers shortest = record { processors = 91 ∷ 92 ∷ 93 ∷ []; starts = 94 ∷ 95 ∷ 96 ∷ 97 ∷ []; finishes = shortest; costs = 98 ∷ 99 ∷ 90 ∷ [] }
+
+pub in-buffers :
+    (buffers-after (two-tasks []) (lent-buffers (88 ∷ 89 ∷ []))
+    ≡ record { processors = 0 ∷ 0 ∷ 93 ∷ []; starts = 0 ∷ 3 ∷ 96 ∷ 97 ∷ []; finishes = 3 ∷ 6 ∷ []; costs = 3 ∷ 3 ∷ 90 ∷ [] })
+    × (row-in (buffers-after (two-tasks []) (lent-buffers (88 ∷ 89 ∷ []))) 1 ≡ row 0 3 6 3)
+    × (buffers-after (two-tasks []) (lent-buffers (88 ∷ [])) ≡ lent-buffers (88 ∷ []))
+    × (answer (two-tasks []) (rows-lent (lent-buffers (88 ∷ []))) ≡ refused 7 2)
+unfolding given two-tasks rows-lent row-in column-after buffers-written buffers-after
+in-buffers = (refl, refl, refl, refl)
