@@ -17,6 +17,7 @@ pub mod Steps
 pub mod StepsSettled
 pub mod WhatIsDue
 pub mod DueSettled
+pub mod PlanBehind
 pub mod PlacingOrder
 pub mod RefusalNine
 pub mod HEFTRank
@@ -30,23 +31,21 @@ use mathlib.Core.Logic.{_≢_}
 use native.Mathlib.Omega.{arith}
 use lib.ListN.{length, drop, getD}
 use Rattle.rules.specs.Folds.{sum, largest}
-use Rattle.rules.specs.Records.{Read, read, stopped}
-use Rattle.rules.specs.Reading.{Request, read-request}
+use Rattle.rules.specs.Reading.{Request}
 use Rattle.rules.specs.Workflow.{Workflow, workflow}
 use Rattle.rules.specs.Start.{arrival}
 use Rattle.rules.specs.Rows.{Row, Placed, no-row, row-of, spent, length-of}
 use Rattle.rules.specs.Answer.{Outcome, plan, refusal, too-late, outcome, planned, answer-of, answer, written, rows-after}
-use Rattle.rules.specs.Buffers.{Buffers, rows-lent, row-in, buffers-after}
+use Rattle.rules.specs.Buffers.{Buffers, rows-lent, row-in, column-after, buffers-written, buffers-after}
 use Rattle.laws.specs.Folds.{sum-same, largest-same}
 use Rattle.laws.specs.Overwritten.{length-overwritten}
 use Rattle.demands.specs.Ground.GoodWorkflow.{GoodWorkflow, good-workflow}
-use Rattle.demands.specs.Ground.GoodRequest.{outcome-of-stopped}
-use Rattle.demands.specs.Ground.Held.{row-written, row-in-written, StaysFrom, later-rows-kept, later-numbers-kept}
+use Rattle.demands.specs.Ground.Held.{row-written, row-in-written, StaysFrom, later-rows-kept, later-numbers-kept, SameLengths, lengths-kept}
 use Rattle.demands.specs.Demand1.Stands.{PassesReading}
 use Rattle.demands.specs.Demand1.Reading.{read-iff-passes}
 use Rattle.demands.specs.Demand2.Sound.{RowTrue, Apart}
-use Rattle.demands.specs.Demand2.WhatIsDue as due
-use Rattle.demands.specs.Demand2.WhatIsDue.{MethodsPlan, Placeable, Due, requests-get-their-due}
+use Rattle.demands.specs.Demand2.WhatIsDue.{MethodsPlan, Placeable}
+use Rattle.demands.specs.Demand2.PlanBehind.{tasks-told, plan-behind}
 
 -- What a plan's answer and rows say of the workflow W, where `row i` is what the caller holds as row i.
 pub record PlanHeld (W : Workflow) (n l c left : ℕ) (row : ℕ → Row) : Type 0 where
@@ -93,75 +92,28 @@ held-by W good rows p in-time row same =
       rows-placed = same;
     }
 
--- The outcome behind a plan's answer.
-record PlanBehind (s : List ℕ) (lent n l c left : ℕ) : Type 0 where
-  request : Request
-  read-to : ℕ
-  is-read : read-request s ≡ read read-to request
-  rows : List Placed
-  outcome-is : outcome s lent ≡ plan (workflow s request) rows
-  answer-is : planned n l c left ≡ answer-of (plan (workflow s request) rows)
-  placeable : Placeable (workflow s request) lent
-  methods-plan : MethodsPlan (workflow s request) rows
-  in-time : too-late (workflow s request .deadline) (length-of rows) ≡ false
-
-tasks-told : {s : List ℕ} {lent n l c left : ℕ} → (b : PlanBehind s lent n l c left) → n ≡ workflow s (b .request) .tasks
+-- Whoever holds the rows of that outcome holds such a plan.
+plan-held :
+    (s : List ℕ) (lent : ℕ) {n l c left : ℕ} → answer s lent ≡ planned n l c left → (row : ℕ → Row)
+    → ((W : Workflow) (rows : List Placed) → outcome s lent ≡ plan W rows → (i : ℕ) → i < W .tasks → row i ≡ row-of rows i)
+    → PlanGot s lent n l c left row
 unfolding answer-of
-tasks-told b = cc (b .answer-is)
-
-module _ (s : List ℕ) (lent : ℕ) {n l c left : ℕ} (e : answer s lent ≡ planned n l c left) where
-  plan-behind : PlanBehind s lent n l c left
-  unfolding answer answer-of
-  plan-behind = go (read-request s) refl
-    where
-      by-due :
-          {end : ℕ} {r : Request} {o : Outcome} → read-request s ≡ read end r → Due (workflow s r) lent o → outcome s lent ≡ o
-          → answer-of o ≡ planned n l c left → PlanBehind s lent n l c left
-      by-due is (due.seven few) given told = let z : _≡_ {A = ℕ} 0 1 = cc in absurd (omega arith)
-      by-due is (due.eight enough lowest) given told = let z : _≡_ {A = ℕ} 0 1 = cc in absurd (omega arith)
-      by-due is (due.nine placeable dear) given told = let z : _≡_ {A = ℕ} 0 1 = cc in absurd (omega arith)
-      by-due is (due.eleven placeable p late) given told = let z : _≡_ {A = ℕ} 0 1 = cc in absurd (omega arith)
-      by-due {end} {r} is (due.planned {rows = rows} placeable p in-time) given told =
-          record {
-            request = r;
-            read-to = end;
-            is-read = is;
-            rows = rows;
-            outcome-is = given;
-            answer-is = sym told;
-            placeable = placeable;
-            methods-plan = p;
-            in-time = in-time;
-          }
-
-      go : (x : Read Request) → read-request s ≡ x → PlanBehind s lent n l c left
-      go (read end r) is = by-due is (requests-get-their-due s is lent) refl e
-      go (stopped number place) is =
-          let told : answer-of (refusal number place) ≡ planned n l c left = ap answer-of (sym (outcome-of-stopped s is lent)) ∙ e in
-          let z : _≡_ {A = ℕ} 0 1 = cc in
-          absurd (omega arith)
-
-  -- Whoever holds the rows of that outcome holds such a plan.
-  plan-held :
-      (row : ℕ → Row) → ((W : Workflow) (rows : List Placed) → outcome s lent ≡ plan W rows → (i : ℕ) → i < W .tasks → row i ≡ row-of rows i)
-      → PlanGot s lent n l c left row
-  unfolding answer-of
-  plan-held row holds =
-      let b = plan-behind in
-      let W = workflow s (b .request) in
-      record {
-        request = b .request;
-        passes = read-iff-passes s (b .request) .0 (b .read-to, b .is-read);
-        placeable = b .placeable;
-        held =
-            told (cc (b .answer-is)) (cc (b .answer-is)) (cc (b .answer-is)) (cc (b .answer-is))
-            (held-by W (good-workflow s (b .is-read)) (b .rows) (b .methods-plan) (b .in-time) row (holds W (b .rows) (b .outcome-is)));
-      }
-    where
-      told :
-          {W : Workflow} {n′ l′ c′ left′ : ℕ} {row : ℕ → Row} → n ≡ n′ → l ≡ l′ → c ≡ c′ → left ≡ left′ → PlanHeld W n′ l′ c′ left′ row
-          → PlanHeld W n l c left row
-      told tasks long costs rest held = rw (tasks, long, costs, rest) held
+plan-held s lent {n} {l} {c} {left} e row holds =
+    let b = plan-behind s lent e in
+    let W = workflow s (b .request) in
+    record {
+      request = b .request;
+      passes = read-iff-passes s (b .request) .0 (b .read-to, b .is-read);
+      placeable = b .placeable;
+      held =
+          told (cc (b .answer-is)) (cc (b .answer-is)) (cc (b .answer-is)) (cc (b .answer-is))
+          (held-by W (good-workflow s (b .is-read)) (b .rows) (b .methods-plan) (b .in-time) row (holds W (b .rows) (b .outcome-is)));
+    }
+  where
+    told :
+        {W : Workflow} {n′ l′ c′ left′ : ℕ} {row : ℕ → Row} → n ≡ n′ → l ≡ l′ → c ≡ c′ → left ≡ left′ → PlanHeld W n′ l′ c′ left′ row
+        → PlanHeld W n l c left row
+    told tasks long costs rest held = rw (tasks, long, costs, rest) held
 
 -- A plan in lent rows: of its first n rows.
 pub plan-in-rows : (s : List ℕ) (lent : List Row) {n l c left : ℕ} → answer s (length lent) ≡ planned n l c left
@@ -190,7 +142,7 @@ later-numbers-stay s lent {n} e =
     let b = plan-behind s (rows-lent lent) e in
     subst (λ k. StaysFrom k lent (buffers-after s lent)) (sym (tasks-told b)) (later-numbers-kept (outcome s (rows-lent lent)) lent (b .outcome-is))
 
--- No row comes or goes.
+-- No row comes or goes, and no number of a buffer.
 pub as-many-rows : (s : List ℕ) (lent : List Row) → length (rows-after s lent) ≡ length lent
 unfolding rows-after answer answer-of written
 as-many-rows s lent = go (outcome s (length lent)) refl
@@ -200,3 +152,13 @@ as-many-rows s lent = go (outcome s (length lent)) refl
         let b = plan-behind s (length lent) (ap answer-of e) in
         length-overwritten (W .tasks) (row-of rows) lent (omega (arith, tasks-told b, b .placeable .enough-rows))
     go (refusal number place) e = refl
+
+pub as-many-numbers : (s : List ℕ) (lent : Buffers) → SameLengths lent (buffers-after s lent)
+unfolding buffers-after answer answer-of rows-lent
+as-many-numbers s lent = go (outcome s (rows-lent lent)) refl
+  where
+    go : (o : Outcome) → outcome s (rows-lent lent) ≡ o → SameLengths lent (buffers-written o lent)
+    go (plan W rows) e =
+        let b = plan-behind s (rows-lent lent) (ap answer-of e) in
+        lengths-kept W rows lent (omega (arith, tasks-told b, b .placeable .enough-rows))
+    go (refusal number place) e = unfold buffers-written column-after in record { processors = refl; starts = refl; finishes = refl; costs = refl }

@@ -1,15 +1,17 @@
 -- What the caller holds after a plan: row i of the lent rows, or of the four buffers, is the row of task i, and what stands after the rows stays.
-use Prim.Native.Nat.{ℕ, _<_}
+use Prim.Native.Nat.{ℕ, _≤_, _<_}
 use mathlib.Core.Path.{_≡_, refl, ap, _∙_}
 use mathlib.Core.List.{List, _++_}
-use lib.ListN.{drop, getD, List·getD-append}
+use native.Mathlib.Omega.{arith}
+use lib.ListN.{length, drop, getD, List·getD-append}
 use lib.Seq.{drop-at}
 use Rattle.rules.specs.Folds.{listing}
 use Rattle.rules.specs.Workflow.{Workflow}
 use Rattle.rules.specs.Rows.{Row, Placed, no-row, row-of}
 use Rattle.rules.specs.Answer.{Outcome, plan, written}
-use Rattle.rules.specs.Buffers.{Buffers, row-in, column-after, buffers-written}
+use Rattle.rules.specs.Buffers.{Buffers, rows-lent, row-in, column-after, buffers-written}
 use Rattle.laws.specs.Listing.{length-listing, getD-listing}
+use Rattle.laws.specs.Overwritten.{length-overwritten}
 
 listed-first : {A : Type 0} (f : ℕ → A) (k : ℕ) (more : List A) (d : A) (i : ℕ) → i < k → getD (listing k f ++ more) i d ≡ f i
 listed-first f k more d i l = List·getD-append (listing k f) more d i (rw (length-listing f k) l) ∙ getD-listing f k d i l
@@ -59,3 +61,20 @@ module _ {W : Workflow} {rows : List Placed} where
         finishes = past-the-listed (λ i. row-of rows i .finish) (W .tasks) (lent .finishes);
         costs = past-the-listed (λ i. row-of rows i .cost) (W .tasks) (lent .costs);
       }
+
+-- Each buffer has as many numbers after as before.
+pub record SameLengths (before after : Buffers) : Type 0 where
+  pub processors : length (after .processors) ≡ length (before .processors)
+  pub starts : length (after .starts) ≡ length (before .starts)
+  pub finishes : length (after .finishes) ≡ length (before .finishes)
+  pub costs : length (after .costs) ≡ length (before .costs)
+
+pub lengths-kept : (W : Workflow) (rows : List Placed) (lent : Buffers) → W .tasks ≤ rows-lent lent → SameLengths lent (buffers-written (plan W rows) lent)
+unfolding buffers-written column-after rows-lent
+lengths-kept W rows lent enough =
+    record {
+      processors = length-overwritten (W .tasks) (λ i. row-of rows i .processor) (lent .processors) (omega arith);
+      starts = length-overwritten (W .tasks) (λ i. row-of rows i .start) (lent .starts) (omega arith);
+      finishes = length-overwritten (W .tasks) (λ i. row-of rows i .finish) (lent .finishes) (omega arith);
+      costs = length-overwritten (W .tasks) (λ i. row-of rows i .cost) (lent .costs) (omega arith);
+    }
