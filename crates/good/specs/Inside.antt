@@ -6,7 +6,7 @@ use native.Mathlib.Omega.{arith}
 use mathlib.Core.List.{List}
 use lib.ListN.{length}
 use borrow.Author.Tests.{lt-ltb}
-use Rattle.rules.specs.Fields.{P, T, W, E, Z, size, body, P-price, W-minutes, E-from, E-to, E-transfer}
+use Rattle.rules.specs.Fields.{P, T, W, E, size, body, P-price, W-minutes, E-from, E-to, E-transfer}
 use Rattle.rules.specs.Reading.{Request}
 use Rattle.rules.specs.Workflow.{price-place, task-place, minutes-place, edge-place, workflow}
 use Rattle.good.specs.Good.{Good}

@@ -10,7 +10,7 @@ use Rattle.rules.specs.Workflow.{Workflow, workflow}
 use Rattle.rules.specs.Labels.{label}
 use Rattle.rules.specs.Ranks.{cost}
 use Rattle.rules.specs.Rows.{Placed, row-of, spent, length-of}
-use Rattle.rules.specs.Answer.{Outcome, plan, planned, refused, refusal, answer-of, answer, outcome}
+use Rattle.rules.specs.Answer.{Outcome, plan, refused, refusal, answer-of, answer, outcome}
 use Rattle.rules.specs.Text.{first-line, row-line, row-lines, text, program}
 use Rattle.good.specs.Ranges.{InRange}
 use Rattle.good.specs.ReadIsGood.{read-is-good}
