@@ -1,23 +1,12 @@
 -- The task in hand, over what arrays hold: when its data is ready on each processor, and what the processors are busy with.
-use Prim.Native.Nat.{ℕ, _+_, _≤_, _<_, max}
-use mathlib.Core.Path.{_≡_}
-use mathlib.Core.Bool.{cond}
+use Prim.Native.Nat.{ℕ, _+_}
 use mathlib.Core.List.{List}
-use lib.Dec.{eqb}
-use lib.ListN.{length}
 use Rattle.rules.specs.Workflow.{Workflow}
 use Rattle.rules.specs.Ranks.{cost}
 use Rattle.rules.specs.Start.{Interval, start-on}
 use Rattle.rules.specs.Method.{Question, Choice, take, nothing, Method}
-use Rattle.laws.specs.Stores.{at}
 use Rattle.hand.specs.declared.Hand.{Hand}
 use Rattle.hand.specs.declared.Hand.the-variants as hand
-
--- The minutes of the first m processors are moved to when an edge's data has arrived there: `here` on the processor `on`, `across` on the others.
-pub record WaitedFor (m on here across : ℕ) (before after : List ℕ) : Type 0 where
-  pub size : length after ≡ length before
-  pub moved : (j : ℕ) → j < m → at after j ≡ max (at before j) (cond (eqb on j) here across)
-  pub kept : (j : ℕ) → m ≤ j → at after j ≡ at before j
 
 module _ (W : Workflow) (ready : ℕ → ℕ) (busy : ℕ → List Interval) (i : ℕ) where
   -- Start and finish of task i on processor j: document 01's, as in `start-of` and `finish-of` of the rules.

@@ -2,23 +2,21 @@
 use Prim.Native.Nat.{ℕ, _+_, _-_, _≤_, _<_}
 use mathlib.Core.Path.{_≡_, refl, sym, ap, _∙_}
 use mathlib.Core.List.{List, List·Memᴰ, List·Memᴰ·eq-of-singleton}
-use native.Mathlib.Nat.{mul-le-mul}
 use native.Mathlib.Omega.{arith}
 use Rattle.rules.specs.Workflow.{Workflow}
-use Rattle.rules.specs.Folds.{lowest}
-use Rattle.rules.specs.Ranks.{cost, lowest-cost}
+use Rattle.rules.specs.Ranks.{cost}
 use Rattle.rules.specs.Start.{Interval, start-on}
 use Rattle.rules.specs.Method.{Question, HBCS}
 use Rattle.good.specs.Ranges as good
-use Rattle.laws.specs.Bounds.{ready-most, asked-finish-most, cost-most, total-most, budget-most}
-use Rattle.laws.specs.Folds.{lowest-same, lowest-at-most}
+use Rattle.laws.specs.Bounds.{ready-most, asked-finish-most, total-most, budget-most}
 use Rattle.laws.specs.StartLaws.{start-at-most}
 use Rattle.laws.specs.Method.{HBCS-same, HBCS-takes-processor}
+use Rattle.costs.specs.CostLaws.{cost-at-most}
 use Rattle.choosing.specs.declared.Choice.{Choice}
 use Rattle.choosing.specs.declared.Choice.the-variants.{Take, Nothing}
 use Rattle.choosing.specs.Asked.{asked, InRange, meant-choice}
 use Rattle.laws.specs.Stores.{at}
-use Rattle.hand.specs.Filled.{AtMost, Filled}
+use Rattle.laws.specs.Filled.{AtMost, Filled}
 use Rattle.hand.specs.Busy.{kept-busy}
 use Rattle.hand.specs.Hand.{start-by, finish-by, question-by, hand-by, hand-of}
 use Rattle.hand.specs.declared.Hand.{Hand}
@@ -42,19 +40,6 @@ unfolding finish-by start-by
 finish-is W ready busy i j minutes start = rw (start, minutes)
 
 module _ (W : Workflow) (range : good.InRange W) (i : ℕ) where
-  pub cost-at-most : (j : ℕ) → cost W i j ≤ cost-most
-  unfolding cost
-  cost-at-most j = omega (arith, mul-le-mul (range .minutes-most i j) (range .price-in j))
-
-  pub lowest-cost-at-most : lowest-cost W i ≤ cost-most
-  unfolding lowest-cost
-  lowest-cost-at-most =
-      omega (arith, lowest-at-most (W .processors) (cost W i) 0 (range .processors-in .from-low), cost-at-most 0)
-
-  pub lowest-filled : {costs : List ℕ} → Filled (W .processors) (cost W i) costs → lowest (W .processors) (at costs) ≡ lowest-cost W i
-  unfolding lowest-cost
-  lowest-filled all = lowest-same (W .processors) _ (cost W i) (all .below) (range .processors-in .from-low)
-
   -- A task takes at most 2,000 minutes from when its data is ready and the processor is free.
   pub finish-at-most :
       (ready : ℕ → ℕ) (until : List ℕ) → ((j : ℕ) → ready j ≤ ready-most) → AtMost ready-most until
@@ -79,7 +64,7 @@ module _ (W : Workflow) (range : good.InRange W) (i : ℕ) where
         record {
           processors-least = range .processors-in .from-low;
           processors-most = range .processors-in .to-high;
-          costs = λ j l. omega (arith, all-costs .below j l, cost-at-most j);
+          costs = λ j l. omega (arith, all-costs .below j l, cost-at-most W range i j);
           finishes = λ j l. omega (arith, all-finishes .below j l, few j);
           RB = rb-most;
           RCB = rcb-most;

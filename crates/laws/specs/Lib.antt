@@ -20,3 +20,5 @@ pub mod Stores
 pub mod Bounds
 pub mod StartLaws
 pub mod LatestFinish
+pub mod Filled
+pub mod FilledLaws

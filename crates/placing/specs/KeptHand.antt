@@ -14,8 +14,8 @@ use Rattle.laws.specs.Bounds.{ready-most}
 use Rattle.laws.specs.LatestFinish.{ready-in-reach}
 use Rattle.laws.specs.Method.{ChoosesAmong}
 use Rattle.laws.specs.Stores.{at}
-use Rattle.hand.specs.Filled.{AtMost, Filled}
-use Rattle.hand.specs.FilledLaws.{filled-at-most}
+use Rattle.laws.specs.Filled.{AtMost, Filled}
+use Rattle.laws.specs.FilledLaws.{filled-at-most}
 use Rattle.hand.specs.Busy.{kept-busy}
 use Rattle.hand.specs.Hand.{start-by, finish-by, question-by, hand-by, hand-of}
 use Rattle.hand.specs.declared.Hand.the-variants as hand

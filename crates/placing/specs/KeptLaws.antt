@@ -21,9 +21,9 @@ use Rattle.laws.specs.First.{first-same}
 use Rattle.laws.specs.Unmarked.{sum-unmarked-less, count-unmarked-at-first}
 use Rattle.laws.specs.NextTask.{next-task-free}
 use Rattle.laws.specs.Stores.{at}
-use Rattle.hand.specs.Filled.{AtMost}
+use Rattle.laws.specs.Filled.{AtMost}
 use Rattle.hand.specs.Busy.{kept-busy}
-use Rattle.hand.specs.HandLaws.{lowest-cost-at-most}
+use Rattle.costs.specs.CostLaws.{lowest-cost-at-most}
 use Rattle.placing.specs.Placed.{placing-order, RanksOf}
 use Rattle.placing.specs.State.{State, without-rows}
 use Rattle.placing.specs.Kept.{Kept}

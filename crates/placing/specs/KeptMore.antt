@@ -17,10 +17,10 @@ use Rattle.laws.specs.LatestFinish.{length-in-reach}
 use Rattle.laws.specs.Unmarked.{sum-unmarked-less}
 use Rattle.laws.specs.Method.{ChoosesAmong}
 use Rattle.laws.specs.Stores.{at}
-use Rattle.hand.specs.Filled.{Filled}
+use Rattle.laws.specs.Filled.{Filled}
 use Rattle.hand.specs.Busy.{kept-busy}
 use Rattle.hand.specs.Hand.{question-by, hand-of}
-use Rattle.hand.specs.HandLaws.{cost-at-most}
+use Rattle.costs.specs.CostLaws.{cost-at-most}
 use Rattle.hand.specs.declared.Hand.the-variants as hand
 use Rattle.placing.specs.State.{State, with-row}
 use Rattle.placing.specs.Kept.{Kept}

@@ -12,7 +12,7 @@ use Rattle.rules.specs.Method.{HBCS}
 use Rattle.rules.specs.Placing as rules
 use Rattle.laws.specs.Bounds.{rank-most}
 use Rattle.laws.specs.Stores.{at}
-use Rattle.hand.specs.Filled.{AtMost}
+use Rattle.laws.specs.Filled.{AtMost}
 use Rattle.placing.specs.declared.Outcome.{Outcome}
 use Rattle.placing.specs.declared.Outcome.the-variants as outcome
 use Rattle.placing.specs.declared.Placing.{Placing}

@@ -98,7 +98,7 @@ fn plan_ranked(s: &[u8], v: View, ranks: &[u64; 64]) -> Planning
     requires { ⌜ RanksOf (workflow-of (now s) v) (now ranks) ⌝ }
     ensures { λ r. ⌜ PlanOf (outcome-within (workflow-of (now (s .entry)) v)) r ⌝ }
 {
-    let cheapest = hand::cheapest_total(s, v);
+    let cheapest = costs::cheapest_total(s, v);
     if v.budget < cheapest {
         return refused(9, cheapest);
     }

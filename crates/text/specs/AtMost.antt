@@ -19,7 +19,7 @@ use Rattle.good.specs.Labels.{good-label}
 use Rattle.good.specs.Program.{program-is-text}
 use Rattle.laws.specs.Bounds.{cost-most, total-most}
 use Rattle.laws.specs.Folds.{sum-at-most-each}
-use Rattle.hand.specs.HandLaws.{cost-at-most}
+use Rattle.costs.specs.CostLaws.{cost-at-most}
 use Rattle.demands.specs.Demand1.LabelBytes.{label-bytes-length}
 use Rattle.demands.specs.Ground.GoodRequest.{outcome-of-stopped}
 use Rattle.demands.specs.Demand1.ReadsSettled.{comes-inside}

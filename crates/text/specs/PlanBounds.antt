@@ -13,7 +13,7 @@ use Rattle.laws.specs.Folds.{sum-at-most-each}
 use Rattle.laws.specs.LatestFinish.{finish-in-length, length-in-reach}
 use Rattle.demands.specs.Demand2.Steps.{EachStep, AsTheMethod}
 use Rattle.demands.specs.Demand2.WhatIsDue.{MethodsPlan}
-use Rattle.hand.specs.HandLaws.{cost-at-most}
+use Rattle.costs.specs.CostLaws.{cost-at-most}
 
 pub record RowBounds (r : Row) : Type 0 where
   pub processor-in : r .processor ≤ 15

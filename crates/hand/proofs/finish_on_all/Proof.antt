@@ -5,8 +5,8 @@ use Rattle.rules.specs.Workflow.{workflow}
 use Rattle.lookup.specs.Lookup.{workflow-of}
 use Rattle.lookup.specs.Views.{view-in-range}
 use Rattle.laws.specs.Stores.{at}
-use Rattle.hand.specs.Filled.{Filled}
-use Rattle.hand.specs.FilledLaws.{filled-none, filled-more}
+use Rattle.laws.specs.Filled.{Filled}
+use Rattle.laws.specs.FilledLaws.{filled-none, filled-more}
 use Rattle.hand.specs.Busy.{kept-busy}
 use Rattle.hand.specs.Hand.{finish-by}
 use Rattle.hand.specs.HandLaws.{finish-is, finish-at-most}

@@ -12,7 +12,7 @@ use Rattle.good.specs.Ranges.{InRange}
 use Rattle.lookup.specs.Lookup.{workflow-of}
 use Rattle.lookup.specs.Views.{view-in-range}
 use Rattle.laws.specs.Method.{HBCS-chooses-among}
-use Rattle.hand.specs.HandLaws.{lowest-filled}
+use Rattle.costs.specs.CostLaws.{lowest-filled}
 use Rattle.hand.specs.declared.Processors.{Processors}
 use Rattle.placing.specs.State.{State, with-row}
 use Rattle.placing.specs.Kept.{Kept}

@@ -1,13 +1,13 @@
--- The laws of an array that is filled one index after the other.
+-- The laws of an array that is filled one index after the other, and that what it holds settles it.
 use Prim.Native.Nat.{ℕ, _+_, _≤_, _<_}
-use mathlib.Core.Path.{_≡_, refl, _∙_}
+use mathlib.Core.Path.{_≡_, refl, sym, _∙_}
 use mathlib.Core.List.{List}
 use native.Mathlib.Decide.{decLe}
 use native.Mathlib.Omega.{arith}
 use lib.ListN.{set, replicate, length-set}
-use lib.Seq.{getD-set-other}
+use lib.Seq.{getD-set-other, ext-getD}
 use Rattle.laws.specs.Stores.{stored-below, repeated, at}
-use Rattle.hand.specs.Filled.{AtMost, Filled}
+use Rattle.laws.specs.Filled.{AtMost, Filled}
 
 -- A store leaves what is past it.
 pub stored-past : (xs : List ℕ) (i x k : ℕ) → i + 1 ≤ k → at (set xs i x) k ≡ at xs k
@@ -31,3 +31,11 @@ filled-at-most {m} {f} {xs} all b most j = go (decLe m j)
     go : Dec (m ≤ j) → at xs j ≤ b
     go (yes l) = omega (arith, all .past j l)
     go (no n) = omega (arith, all .below j (omega arith), most j)
+
+-- Two arrays that hold the first m values of one function are one array.
+pub filled-settled : {m : ℕ} {f : ℕ → ℕ} (xs ys : List ℕ) → Filled m f xs → Filled m f ys → xs ≡ ys
+filled-settled {m} {f} xs ys one other = ext-getD 0 xs ys (one .size ∙ sym (other .size)) (λ j l. same j (decLe m j))
+  where
+    same : (j : ℕ) → Dec (m ≤ j) → at xs j ≡ at ys j
+    same j (yes l) = one .past j l ∙ sym (other .past j l)
+    same j (no l) = one .below j (omega arith) ∙ sym (other .below j (omega arith))

@@ -8,11 +8,11 @@ use Rattle.laws.specs.Bounds.{cost-most}
 use Rattle.laws.specs.Folds.{sum-next}
 use Rattle.lookup.specs.Lookup.{workflow-of}
 use Rattle.lookup.specs.Views.{view-in-range}
-use Rattle.hand.specs.HandLaws.{lowest-filled, lowest-cost-at-most}
+use Rattle.costs.specs.CostLaws.{lowest-filled, lowest-cost-at-most}
 use borrow.Author.Needs.{needs}
 use native.Mathlib.Omega.{arith}
-use Rattle.hand.proofs.cheapest_total.Statement.{statement}
-use Rattle.hand.proofs.cheapest_total.Tie as tie
+use Rattle.costs.proofs.cheapest_total.Statement.{statement}
+use Rattle.costs.proofs.cheapest_total.Tie as tie
 
 abbrev Inv-loop : tie.InvT-loop
 Inv-loop s v total₀ i₀ total i = (i ≤ v .tasks) × (total ≡ sum i (lowest-cost (workflow-of s v))) × (total ≤ cost-most * i)

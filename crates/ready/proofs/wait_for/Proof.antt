@@ -2,12 +2,12 @@
 use Prim.Native.Nat.{_≤_, _-_, max}
 use mathlib.Core.Path.{_≡_, ap, _∙_}
 use Rattle.laws.specs.Stores.{at}
-use Rattle.hand.specs.Hand.{WaitedFor}
-use Rattle.hand.specs.ReadyLaws.{waited-none, waited-more}
+use Rattle.ready.specs.Ready.{WaitedFor}
+use Rattle.ready.specs.ReadyLaws.{waited-none, waited-more}
 use borrow.Author.Needs.{needs}
 use native.Mathlib.Omega.{arith}
-use Rattle.hand.proofs.wait_for.Statement.{statement}
-use Rattle.hand.proofs.wait_for.Tie as tie
+use Rattle.ready.proofs.wait_for.Statement.{statement}
+use Rattle.ready.proofs.wait_for.Tie as tie
 
 abbrev Inv-loop : tie.InvT-loop
 Inv-loop ready₀ m on here across j₀ ready j = (j ≤ m) × WaitedFor j on here across ready₀ ready

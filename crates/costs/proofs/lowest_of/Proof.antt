@@ -6,8 +6,8 @@ use Rattle.laws.specs.Folds.{lowest-next}
 use Rattle.laws.specs.Stores.{at}
 use borrow.Author.Needs.{needs}
 use native.Mathlib.Omega.{arith}
-use Rattle.hand.proofs.lowest_of.Statement.{statement}
-use Rattle.hand.proofs.lowest_of.Tie as tie
+use Rattle.costs.proofs.lowest_of.Statement.{statement}
+use Rattle.costs.proofs.lowest_of.Tie as tie
 
 abbrev Inv-loop : tie.InvT-loop
 Inv-loop m all low₀ j₀ low j = (j ≤ m) × (low ≡ lowest j (at all))

@@ -5,10 +5,10 @@ use Rattle.rules.specs.Workflow.{workflow}
 use Rattle.lookup.specs.Lookup.{workflow-of}
 use Rattle.lookup.specs.Views.{view-in-range}
 use Rattle.laws.specs.Stores.{at}
-use Rattle.hand.specs.ReadyLaws.{ReadyFrom, ready-from-end, ready-from-last, ready-from-more, ready-from-start}
+use Rattle.ready.specs.ReadyLaws.{ReadyFrom, ready-from-end, ready-from-last, ready-from-more, ready-from-start}
 use native.Mathlib.Omega.{arith}
-use Rattle.hand.proofs.ready_on_all.Statement.{statement}
-use Rattle.hand.proofs.ready_on_all.Tie as tie
+use Rattle.ready.proofs.ready_on_all.Statement.{statement}
+use Rattle.ready.proofs.ready_on_all.Tie as tie
 
 abbrev Inv-loop : tie.InvT-loop
 Inv-loop s v last before sits ends task all₀ next₀ all next =

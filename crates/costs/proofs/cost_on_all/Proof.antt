@@ -6,12 +6,12 @@ use Rattle.rules.specs.Workflow.{workflow}
 use Rattle.rules.specs.Ranks.{cost}
 use Rattle.lookup.specs.Lookup.{workflow-of}
 use Rattle.lookup.specs.Views.{view-in-range}
-use Rattle.hand.specs.Filled.{Filled}
-use Rattle.hand.specs.FilledLaws.{filled-none, filled-more}
+use Rattle.laws.specs.Filled.{Filled}
+use Rattle.laws.specs.FilledLaws.{filled-none, filled-more}
 use borrow.Author.Needs.{needs}
 use native.Mathlib.Omega.{arith}
-use Rattle.hand.proofs.cost_on_all.Statement.{statement}
-use Rattle.hand.proofs.cost_on_all.Tie as tie
+use Rattle.costs.proofs.cost_on_all.Statement.{statement}
+use Rattle.costs.proofs.cost_on_all.Tie as tie
 
 abbrev Inv-loop : tie.InvT-loop
 Inv-loop s v task all₀ j₀ all j = (j ≤ v .processors) × Filled j (cost (workflow-of s v) task) all

@@ -13,9 +13,9 @@ use Rattle.rules.specs.Start.{arrival, ready}
 use Rattle.laws.specs.Folds.{largest-next, largest-further}
 use Rattle.laws.specs.Stores.{stored-below, repeated, at}
 use Rattle.links.specs.Links.{LastInto}
-use Rattle.hand.specs.Filled.{Filled}
-use Rattle.hand.specs.FilledLaws.{stored-past}
-use Rattle.hand.specs.Hand.{WaitedFor}
+use Rattle.laws.specs.Filled.{Filled}
+use Rattle.laws.specs.FilledLaws.{stored-past}
+use Rattle.ready.specs.Ready.{WaitedFor}
 
 -- One edge waited for, on one processor after the other.
 module _ {on here across : ℕ} where

@@ -1,0 +1,14 @@
+-- When an edge's data has arrived on each processor, over arrays of minutes.
+use Prim.Native.Nat.{ℕ, _≤_, _<_, max}
+use mathlib.Core.Path.{_≡_}
+use mathlib.Core.Bool.{cond}
+use mathlib.Core.List.{List}
+use lib.Dec.{eqb}
+use lib.ListN.{length}
+use Rattle.laws.specs.Stores.{at}
+
+-- The minutes of the first m processors are moved to when an edge's data has arrived there: `here` on the processor `on`, `across` on the others.
+pub record WaitedFor (m on here across : ℕ) (before after : List ℕ) : Type 0 where
+  pub size : length after ≡ length before
+  pub moved : (j : ℕ) → j < m → at after j ≡ max (at before j) (cond (eqb on j) here across)
+  pub kept : (j : ℕ) → m ≤ j → at after j ≡ at before j
