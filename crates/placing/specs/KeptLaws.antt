@@ -24,7 +24,8 @@ use Rattle.laws.specs.Stores.{at}
 use Rattle.laws.specs.Filled.{AtMost}
 use Rattle.hand.specs.Busy.{kept-busy}
 use Rattle.costs.specs.CostLaws.{lowest-cost-at-most}
-use Rattle.placing.specs.Placed.{placing-order, RanksOf}
+use Rattle.order.specs.Standing.{placing-order}
+use Rattle.placing.specs.Placed.{RanksOf}
 use Rattle.placing.specs.State.{State, without-rows}
 use Rattle.placing.specs.Kept.{Kept}
 use Rattle.placing.specs.Arrays.{columns-first, marks-first, until-first}

@@ -1,5 +1,4 @@
 pub mod Placed
-pub mod Standing
 pub mod State
 pub mod Kept
 pub mod Arrays

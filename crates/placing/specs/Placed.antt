@@ -1,10 +1,8 @@
 -- What the code's placing says, in the rules' words.
-use Prim.Native.Nat.{ℕ, _+_, _-_, _<_}
+use Prim.Native.Nat.{ℕ, _-_, _<_}
 use mathlib.Core.Path.{_≡_}
-use mathlib.Core.Bool.{Bool, false, cond, not}
 use mathlib.Core.List.{List, []}
-use lib.ListN.{length, getD}
-use Rattle.rules.specs.Orders.{Order, tie, higher, among}
+use lib.ListN.{length}
 use Rattle.rules.specs.Workflow.{Workflow}
 use Rattle.rules.specs.Ranks.{R}
 use Rattle.rules.specs.Rows.{Row, Placed, row-of, spent, length-of}
@@ -16,14 +14,6 @@ use Rattle.laws.specs.Filled.{AtMost}
 use Rattle.placing.specs.declared.Outcome.{Outcome}
 use Rattle.placing.specs.declared.Outcome.the-variants as outcome
 use Rattle.placing.specs.declared.Placing.{Placing}
-
--- 1 more than the rank of a task that is not placed; 0 for one that is. The higher standing goes first.
-unfoldable pub standing-in : List ℕ → List Bool → ℕ → ℕ
-standing-in ranks placed i = cond (getD placed i false) 0 (at ranks i + 1)
-
--- "Tasks are placed by falling R; equal R, lower number first", of those not placed: by ranks and marks in arrays.
-abbrev pub placing-order : List ℕ → List Bool → Order
-placing-order ranks placed = among (λ i. not (getD placed i false)) (higher (at ranks) tie)
 
 -- The array holds the ranks of all tasks.
 pub record RanksOf (W : Workflow) (ranks : List ℕ) : Type 0 where
