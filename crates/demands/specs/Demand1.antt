@@ -37,7 +37,7 @@ use Rattle.rules.specs.Text.{text, program}
 use Rattle.good.specs.ReadIsGood.{read-is-good}
 use Rattle.good.specs.RangeLaws.{good-length}
 use Rattle.good.specs.Labels.{good-label, label-begins}
-use Rattle.good.specs.Program.{answer-first, rows-after-first, label-lookup-first, label-first, program-is-text}
+use Rattle.good.specs.Program.{outcome-first, answer-first, rows-after-first, label-lookup-first, label-first, program-is-text}
 use Rattle.demands.specs.Demand1.Wanted.{task, Passes}
 use Rattle.demands.specs.Demand1.Reads.{Stops}
 use Rattle.demands.specs.Demand1.Stands.{PassesReading}
@@ -85,13 +85,22 @@ good-request-length s {r} passes = good-length s r (read-is-good s (read-iff-pas
 pub record FirstBytesDecide (s : List ℕ) : Type 0 where
   pub answers : (lent : ℕ) → answer (take 16_384 s) lent ≡ answer s lent
   pub rows : (lent : List Row) → rows-after (take 16_384 s) lent ≡ rows-after s lent
+  pub buffers : (lent : Buffers) → buffers-after (take 16_384 s) lent ≡ buffers-after s lent
   pub labels : (i : ℕ) → label (take 16_384 s) i ≡ label s i
   pub parts : (i : ℕ) → label-lookup (take 16_384 s) i ≡ label-lookup s i
   pub texts : program s ≡ text s
 
 pub first-bytes-decide : (s : List ℕ) → FirstBytesDecide s
+unfolding buffers-after
 first-bytes-decide s =
-    record { answers = answer-first s; rows = rows-after-first s; labels = label-first s; parts = label-lookup-first s; texts = program-is-text s }
+    record {
+      answers = answer-first s;
+      rows = rows-after-first s;
+      buffers = λ lent. ap (λ o. buffers-written o lent) (outcome-first s (rows-lent lent));
+      labels = label-first s;
+      parts = label-lookup-first s;
+      texts = program-is-text s;
+    }
 
 -- What an input and so many rows lent get: the refusal of the first fault, or, for a request that passes reading, what is due to its workflow.
 pub data Answered (s : List ℕ) (lent : ℕ) : Outcome → Type 0 where
