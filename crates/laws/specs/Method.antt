@@ -1,12 +1,12 @@
 -- The method looks at nothing but the processors there are, and takes one of them; the best finishes earliest.
 use Prim.Native.Nat.{ℕ, zero, suc, _≤_, _<_, min}
-use mathlib.Core.Path.{_≡_, refl, ap, ap₂, _∙_, subst}
-use mathlib.Core.Bool.{Bool, true, false, cond}
+use mathlib.Core.Path.{_≡_, refl, ap, _∙_}
+use mathlib.Core.Bool.{true}
 use mathlib.Core.Logic.{⊎-elim}
 use native.Mathlib.Omega.{arith}
 use Rattle.rules.specs.Folds.{lowest}
 use Rattle.rules.specs.Orders.{Order, lower, first}
-use Rattle.rules.specs.Method.{Question, Method, take, nothing, best, may-be-taken, latest-finish, B, F, or-one, score, preferred, HBCS}
+use Rattle.rules.specs.Method.{Question, Method, best, may-be-taken, latest-finish, B, F, or-one, score, preferred, HBCS}
 use Rattle.laws.specs.Tests.{cond-either}
 use Rattle.laws.specs.Folds.{largest-same, lowest-same}
 use Rattle.laws.specs.Orders.{lower-true, lower-false, lower-same, higher-same, among-same}
@@ -72,20 +72,13 @@ module _ (m : ℕ) (some : 1 ≤ m) (c d f g : ℕ → ℕ) (b k : ℕ)
         lowest-same m c d costs some,
       )
 
-  first-preferred-same : first m (preferred one) ≡ first m (preferred other)
-  unfolding preferred
-  first-preferred-same =
+  choice-same : HBCS one ≡ HBCS other
+  unfolding HBCS preferred
+  choice-same =
       first-same m _ _ (λ i j l n.
       among-same _ _ _ _ i j (may-same i l) (may-same j n)
       (higher-same (score one) (score other) _ _ i j (score-same i l) (score-same j n)
       (lower-same f g _ _ i j (finishes i l) (finishes j n) refl)))
-
-  choice-same : HBCS one ≡ HBCS other
-  unfolding HBCS
-  choice-same =
-      ap₂ (λ t j. cond t (take j) nothing)
-      (ap (may-be-taken one) first-preferred-same ∙ may-same (first m (preferred other)) (first-below m (preferred other) some))
-      first-preferred-same
 
 -- They have the same choice.
 pub HBCS-same : (q r : Question) → 1 ≤ q .processors → Same q r → HBCS q ≡ HBCS r
@@ -93,27 +86,14 @@ HBCS-same q r some same =
     choice-same (q .processors) some (q .cost) (r .cost) (q .finish) (r .finish) (q .RB) (q .RCB) (same .cost) (same .finish)
     ∙ (λ t. HBCS (record { processors = same .processors t; cost = r .cost; finish = r .finish; RB = same .RB t; RCB = same .RCB t }))
 
--- The processor that it prefers to all others.
-abbrev pub chosen : Question → ℕ
-chosen q = first (q .processors) (preferred q)
-
--- What it takes is that one, which may be taken.
-pub HBCS-taken : (q : Question) (j : ℕ) → HBCS q ≡ take j → (chosen q ≡ j) × (may-be-taken q (chosen q) ≡ true)
+-- What it takes is one of the processors there are.
+pub HBCS-takes-processor : (q : Question) → 1 ≤ q .processors → HBCS q < q .processors
 unfolding HBCS
-HBCS-taken q j = go (may-be-taken q (chosen q)) refl
-  where
-    go :
-        (t : Bool) → may-be-taken q (chosen q) ≡ t → cond t (take (chosen q)) nothing ≡ take j
-        → (chosen q ≡ j) × (may-be-taken q (chosen q) ≡ true)
-    go true may e = (cc, may)
-    go false may e = let z : _≡_ {A = ℕ} 0 1 = cc in absurd (omega arith)
-
-pub HBCS-takes-processor : (q : Question) (j : ℕ) → 1 ≤ q .processors → HBCS q ≡ take j → j < q .processors
-HBCS-takes-processor q j some e = subst (λ k. k < q .processors) (HBCS-taken q j e .0) (first-below (q .processors) (preferred q) some)
+HBCS-takes-processor q some = first-below (q .processors) (preferred q) some
 
 -- What placing asks of a method: it takes one of the processors, and where two questions are the same for these it chooses the same.
 pub record ChoosesAmong (M : Method) : Type 0 where
-  pub takes-processor : (q : Question) (j : ℕ) → 1 ≤ q .processors → M q ≡ take j → j < q .processors
+  pub takes-processor : (q : Question) → 1 ≤ q .processors → M q < q .processors
   pub alike : (q r : Question) → 1 ≤ q .processors → Same q r → M q ≡ M r
 
 pub HBCS-chooses-among : ChoosesAmong HBCS

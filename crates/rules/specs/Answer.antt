@@ -12,7 +12,7 @@ use Rattle.rules.specs.Cycle.{cyclic, lowest-in-cycle}
 use Rattle.rules.specs.Ranks.{cheapest-total}
 use Rattle.rules.specs.Method.{Method, HBCS}
 use Rattle.rules.specs.Rows.{Row, Placed, row-of, spent, length-of}
-use Rattle.rules.specs.Placing.{Placing, so-far, stuck, place}
+use Rattle.rules.specs.Placing.{place}
 
 -- What is decided: a plan of this workflow with its tasks placed, or a refusal, number and place.
 pub data Outcome : Type 0 where
@@ -29,12 +29,11 @@ unfoldable pub too-late : Deadline → ℕ → Bool
 too-late no-deadline length = false
 too-late (by d) length = ltb d length
 
--- 10: "some task has no processor it may take", place "that task"; 11: place "the length".
-unfoldable pub placed-outcome : Workflow → Placing → Outcome
-placed-outcome W (stuck i) = refusal 10 i
-placed-outcome W (so-far rows) = refuse (too-late (W .deadline) (length-of rows)) 11 (length-of rows) (plan W rows)
+-- 11: place "the length".
+unfoldable pub placed-outcome : Workflow → List Placed → Outcome
+placed-outcome W rows = refuse (too-late (W .deadline) (length-of rows)) 11 (length-of rows) (plan W rows)
 
--- "After reading: 7, 8, 9, then placing with 10, then 11", by any method, with so many rows lent.
+-- "After reading: 7, 8, 9, then placing, then 11", by any method, with so many rows lent.
 -- 7: "fewer than n rows lent", place n; 8: "lowest task with a path back to itself"; 9: "the cheapest total".
 unfoldable pub outcome-by : Method → Workflow → ℕ → Outcome
 outcome-by M W lent =

@@ -19,7 +19,7 @@ use Rattle.rules.specs.Ranks.{cost, lowest-cost, cheapest-total, rank-by
 use Rattle.rules.specs.Start.{arrival, ready, latest-end, start-on}
 use Rattle.rules.specs.Method.{best, may-be-taken, latest-finish, B, F, or-one, score, preferred, HBCS}
 use Rattle.rules.specs.Rows.{Row, row-of, is-placed, busy, spent, length-of}
-use Rattle.rules.specs.Placing.{ready-for, start-of, finish-of, RB, RCB, question, row-on, put, place-next, place}
+use Rattle.rules.specs.Placing.{ready-for, start-of, finish-of, RB, RCB, question, row-on, place-next, place}
 use Rattle.rules.specs.Answer.{Answer, refused, refuse, too-late, placed-outcome, outcome-by, outcome-read, outcome, answer-of, answer, written, rows-after}
 use Rattle.rules.specs.Multiplied.{multiplied-deadline, multiplied}
 use Rattle.rules.specs.Text.{bytes, digits, decimal, line, first-line, row-line, lines, row-lines, text}
@@ -94,7 +94,7 @@ unfolding
     cost lowest-cost cheapest-total rank-by rank-within R next-task
     arrival ready latest-end start-on
     best may-be-taken latest-finish B F or-one score preferred HBCS
-    row-of is-placed busy ready-for start-of finish-of spent length-of RB RCB question row-on put place-next place
+    row-of is-placed busy ready-for start-of finish-of spent length-of RB RCB question row-on place-next place
     refuse too-late placed-outcome outcome-by outcome-read outcome answer-of answer written rows-after
     bytes digits decimal line first-line row-line lines row-lines text
 given c = record { answer = answer (c .input) (length (c .lent)); rows = rows-after (c .input) (c .lent) }

@@ -1,6 +1,6 @@
 -- Choosing a processor for the task in hand: HBCS.
 use Prim.Native.Nat.{ℕ, zero, suc, _+_, _*_, _-_}
-use mathlib.Core.Bool.{Bool, cond, _&&_}
+use mathlib.Core.Bool.{Bool, _&&_}
 use lib.Dec.{leb}
 use Rattle.rules.specs.Folds.{largest, lowest}
 use Rattle.rules.specs.Orders.{Order, tie, lower, higher, among, first}
@@ -13,12 +13,9 @@ pub record Question : Type 0 where
   pub RB : ℕ
   pub RCB : ℕ
 
-pub data Choice : Type 0 where
-  take : ℕ → Choice
-  nothing : Choice
-
+-- A method takes a processor, whatever it is asked.
 abbrev pub Method : Type 0
-Method = Question → Choice
+Method = Question → ℕ
 
 -- "Best: earliest finish; ties to lower cost, then lower number."
 unfoldable pub best : Question → ℕ
@@ -51,11 +48,10 @@ score q j =
     (q .cost (best q) - q .cost j) * q .RCB * or-one (F q)
     + (latest-finish q - q .finish j) * or-one (B q) * or-one (q .RB)
 
--- "The highest score among those that may be taken wins; ties to earlier finish, then lower number."
+-- "The highest score among those that may be taken wins; ties to earlier finish, then lower number." Where none may be taken no processor is
+-- preferred to another; after refusal 9 one always may (`what-is-taken-may-be` of the demands).
 unfoldable pub preferred : Question → Order
 preferred q = among (may-be-taken q) (higher (score q) (lower (q .finish) tie))
 
 unfoldable pub HBCS : Method
-HBCS q =
-    let j = first (q .processors) (preferred q) in
-    cond (may-be-taken q j) (take j) nothing
+HBCS q = first (q .processors) (preferred q)

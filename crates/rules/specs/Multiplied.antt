@@ -38,7 +38,7 @@ multiplied-row a b r =
       cost = a * b * r .cost;
     }
 
--- "The places of refusals 7, 8 and 10 are the same, that of 9 is multiplied by a x b, that of 11 by a."
+-- "The places of refusals 7 and 8 are the same, that of 9 is multiplied by a x b, that of 11 by a."
 unfoldable pub multiplied-place : ℕ → ℕ → ℕ → ℕ → ℕ
 multiplied-place a b number place = cond (eqb number 9) (a * b * place) (cond (eqb number 11) (a * place) place)
 

@@ -8,7 +8,7 @@ use Rattle.rules.specs.Workflow.{Workflow}
 use Rattle.rules.specs.Ranks.{cost, lowest-cost, next-task}
 use Rattle.rules.specs.Start.{ready, start-on}
 use Rattle.rules.specs.Rows.{Row, Placed, row-of, is-placed, busy, spent}
-use Rattle.rules.specs.Method.{Question, Choice, take, nothing, Method}
+use Rattle.rules.specs.Method.{Question, Method}
 
 -- Ready, start and finish of task i on processor j.
 unfoldable pub ready-for : Workflow → List Placed → ℕ → ℕ → ℕ
@@ -21,7 +21,8 @@ start-of W so-far i j = start-on (busy so-far j) (ready-for W so-far i j) (W .mi
 unfoldable pub finish-of : Workflow → List Placed → ℕ → ℕ → ℕ
 finish-of W so-far i j = start-of W so-far i j + W .minutes i j
 
--- "RB: budget less the costs already chosen." A cost that may be taken is at most RB, so it never falls below 0.
+-- "RB: budget less the costs already chosen." After refusal 9 these never come to more than the budget (`stays-affordable` of the demands), so it is
+-- never below 0.
 unfoldable pub RB : Workflow → List Placed → ℕ
 RB W so-far = W .budget - spent so-far
 
@@ -49,22 +50,13 @@ row-on W so-far i j =
       cost = cost W i j;
     }
 
--- The tasks placed so far, the newest first; or the task that has no processor it may take.
-pub data Placing : Type 0 where
-  so-far : List Placed → Placing
-  stuck : ℕ → Placing
-
-unfoldable pub put : Workflow → List Placed → ℕ → Choice → Placing
-put W before i (take j) = so-far (record { task = i; row = row-on W before i j } ∷ before)
-put W before i nothing = stuck i
-
-unfoldable pub place-next : Method → Workflow → Placing → Placing
-place-next M W (so-far before) =
-    let i = next-task W (is-placed before) in
-    put W before i (M (question W before i))
-place-next M W (stuck i) = stuck i
+-- The next task, on the processor that the method takes; the newest stands first.
+unfoldable pub place-next : Method → Workflow → List Placed → List Placed
+place-next M W so-far =
+    let i = next-task W (is-placed so-far) in
+    record { task = i; row = row-on W so-far i (M (question W so-far i)) } ∷ so-far
 
 -- The first k tasks of the placing order.
-unfoldable pub place : Method → Workflow → ℕ → Placing
-place M W zero = so-far []
+unfoldable pub place : Method → Workflow → ℕ → List Placed
+place M W zero = []
 place M W (suc k) = place-next M W (place M W k)
