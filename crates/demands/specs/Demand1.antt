@@ -21,14 +21,14 @@ pub mod LabelBytes
 use Prim.Native.Nat.{ℕ, _+_, _≤_, _<_}
 use mathlib.Core.Path.{_≡_, refl, sym, ap, _∙_}
 use mathlib.Core.List.{List, List·Memᴰ}
-use mathlib.Core.Logic.{_↔_}
+use mathlib.Core.Logic.{_⊎_, inl, inr, _↔_}
 use native.Mathlib.Omega.{arith}
 use lib.ListN.{length, take, getD}
 use Rattle.label.specs.Label.{Label, Listed}
 use Rattle.rules.specs.Fields.{byte}
 use Rattle.rules.specs.Records.{Read, read, stopped}
 use Rattle.rules.specs.Reading.{Request, read-request}
-use Rattle.rules.specs.Workflow.{workflow, task-place}
+use Rattle.rules.specs.Workflow.{Workflow, workflow, task-place}
 use Rattle.rules.specs.Labels.{label-place, label-lookup, label}
 use Rattle.rules.specs.Rows.{Row}
 use Rattle.rules.specs.Answer.{Outcome, plan, refusal, outcome, refused, answer-of, answer, written, rows-after}
@@ -45,6 +45,7 @@ use Rattle.demands.specs.Demand1.Reading.{reading-stops, fault-stops, re
 use Rattle.demands.specs.Demand1.LabelBytes.{label-bytes-length, label-byte, label-byte-listed, each-member}
 use Rattle.demands.specs.Ground.GoodWorkflow.{good-workflow}
 use Rattle.demands.specs.Ground.GoodRequest.{outcome-of-good, outcome-of-stopped}
+use Rattle.demands.specs.Demand2.WhatIsDue as due
 use Rattle.demands.specs.Demand2.WhatIsDue.{Due, requests-get-their-due}
 use Rattle.demands.specs.Demand2.DueSettled.{due-is-outcome}
 
@@ -155,6 +156,24 @@ later-refusals-are-due s lent {number} {place} e later = go (read-request s) ref
         let early = stopped-with-1-to-6 (reading-stops s stopped-so) in
         let same : number ≡ number′ = cc (given, outcome-of-stopped s stopped-so lent) in
         absurd (omega arith)
+
+-- The number of a refusal is one of the table's: 1 to 9, or 11.
+pub refusal-numbers : (s : List ℕ) (lent : ℕ) {number place : ℕ} → answer s lent ≡ refused number place → ((1 ≤ number) × (number ≤ 9)) ⊎ (number ≡ 11)
+refusal-numbers s lent {number} {place} e = go (refused-iff-answered s lent number place .0 e) refl
+  where
+    of-due : {W : Workflow} {o : Outcome} → Due W lent o → o ≡ refusal number place → ((1 ≤ number) × (number ≤ 9)) ⊎ (number ≡ 11)
+    of-due (due.seven few) is = let same : 7 ≡ number = cc in inl (omega arith, omega arith)
+    of-due (due.eight enough lowest) is = let same : 8 ≡ number = cc in inl (omega arith, omega arith)
+    of-due (due.nine placeable dear) is = let same : 9 ≡ number = cc in inl (omega arith, omega arith)
+    of-due (due.eleven placeable p late) is = let same : 11 ≡ number = cc in inr (sym same)
+    of-due (due.planned placeable p in-time) is = let z : _≡_ {A = ℕ} 0 1 = cc in absurd (omega arith)
+
+    go : {o : Outcome} → Answered s lent o → o ≡ refusal number place → ((1 ≤ number) × (number ≤ 9)) ⊎ (number ≡ 11)
+    go (refused-in-reading {number = n} stop) is =
+        let early = stopped-with-1-to-6 stop in
+        let same : n ≡ number = cc in
+        inl (omega arith, omega arith)
+    go (passed-reading passes its-due) is = of-due its-due is
 
 -- "A refusal changes no row."
 pub refusal-changes-no-row :

@@ -1,58 +1,84 @@
--- Refusal 10 never comes: what is spent and the cheapest of what is left stay within the budget, so that a processor may always be taken.
-use Prim.Native.Nat.{ℕ, zero, suc, _+_, _≤_, _<_}
-use mathlib.Core.Path.{_≡_, refl, ap, subst}
+-- "Once the cheapest total fits, I believe the cheapest processor can always be taken": what is spent and the cheapest of what is left stay within the
+-- budget, at every step of the placing. So there is always a processor that may be taken, and what the method takes may be.
+use Prim.Native.Nat.{ℕ, _+_, _≤_, _<_}
+use mathlib.Core.Path.{_≡_, subst}
 use mathlib.Core.Bool.{false}
-use mathlib.Core.List.{List, [], _∷_}
+use mathlib.Core.List.{List}
 use native.Mathlib.Nat.{le-refl}
 use native.Mathlib.Omega.{arith}
 use lib.ListN.{length}
 use Rattle.rules.specs.Workflow.{Workflow}
-use Rattle.rules.specs.Ranks.{lowest-cost, cheapest-total, next-task}
+use Rattle.rules.specs.Ranks.{cost, lowest-cost, cheapest-total, next-task}
 use Rattle.rules.specs.Rows.{Placed, is-placed, spent}
-use Rattle.rules.specs.Method.{Method, HBCS}
-use Rattle.rules.specs.Placing.{RB, RCB, question, row-on, so-far, put, place-next, place}
+use Rattle.rules.specs.Method.{Question, Method, best, HBCS}
+use Rattle.rules.specs.Placing.{RB, RCB, question, row-on, place}
 use Rattle.laws.specs.Unmarked.{sum-unmarked, sum-unmarked-less}
-use Rattle.demands.specs.Ground.MethodLaws.{ChoosesProcessors, KeepsWithin}
-use Rattle.demands.specs.Demand2.HBCSChoice.{HBCS-chooses-processors, HBCS-keeps-within}
-use Rattle.demands.specs.Demand2.Built.{Built, PlacedSo, next-task-free, place-so}
+use Rattle.demands.specs.Ground.MethodLaws.{ChoosesProcessors, LeavesEnough, CheapestLeavesEnough, KeepsWithin}
+use Rattle.demands.specs.Ground.Best.{MayBeTaken, may-of-test}
+use Rattle.demands.specs.Demand2.HBCSChoice.{cheapest-may-be-taken, HBCS-chooses-processors, HBCS-may-be-taken, HBCS-keeps-within}
+use Rattle.demands.specs.Demand2.Built.{Built, at-first, one-more, next-task-free, place-built}
 
 -- What is spent, and the lowest costs of the tasks still to come.
 abbrev pub Affordable : Workflow → List Placed → Type 0
 Affordable W rows = spent rows + sum-unmarked (W .tasks) (is-placed rows) (lowest-cost W) ≤ W .budget
 
+-- Then a task that is left can have its lowest cost.
+enough-left :
+    (W : Workflow) (rows : List Placed) → Affordable W rows → (i : ℕ) → i < W .tasks → is-placed rows i ≡ false
+    → CheapestLeavesEnough (question W rows i)
+unfolding question RB RCB lowest-cost
+enough-left W rows fits i task free = omega (arith, sum-unmarked-less (is-placed rows) (lowest-cost W) (W .tasks) i task free)
+
 pub record AllPlaced (M : Method) (W : Workflow) (rows : List Placed) : Type 0 where
-  pub placed : place M W (W .tasks) ≡ so-far rows
   pub built : Built M W rows
   pub count : length rows ≡ W .tasks
   pub fits : Affordable W rows
 
-module _ (M : Method) (W : Workflow) (chooses : ChoosesProcessors M) (keeps : KeepsWithin M) (some : 1 ≤ W .processors) where
-  put-affordable :
-      (rows : List Placed) → Affordable W rows → (i : ℕ) → i < W .tasks → is-placed rows i ≡ false
-      → (after : List Placed) × (put W rows i (M (question W rows i)) ≡ so-far after) × Affordable W after
-  unfolding question RB RCB lowest-cost put is-placed spent row-on
-  put-affordable rows fits i l free =
-      let less = sum-unmarked-less (is-placed rows) (lowest-cost W) (W .tasks) i l free in
-      let affords = keeps (question W rows i) some (omega arith) in
-      (record { task = i; row = row-on W rows i (affords .on) } ∷ rows, ap (put W rows i) (affords .taken), omega (arith, affords .fits))
-
-  pub never-stuck :
-      cheapest-total W ≤ W .budget → (k : ℕ) → k ≤ W .tasks → (rows : List Placed) × (place M W k ≡ so-far rows) × Affordable W rows
-  unfolding place place-next
-  never-stuck within zero l = ([], refl, unfold cheapest-total is-placed spent in omega arith)
-  never-stuck within (suc k) l =
-      let (rows, placed, fits) = never-stuck within k (omega arith) in
-      let (built, count) = subst (PlacedSo M W k) placed (place-so M W chooses some k (omega arith)) in
-      let (task, free) = next-task-free M W rows built (omega arith) in
-      rw placed (put-affordable rows fits (next-task W (is-placed rows)) task free)
+module _ (M : Method) (W : Workflow) (keeps : KeepsWithin M) (some : 1 ≤ W .processors) (within : cheapest-total W ≤ W .budget) where
+  pub stays-affordable : {rows : List Placed} → Built M W rows → Affordable W rows
+  unfolding question RB RCB lowest-cost is-placed spent row-on
+  stays-affordable at-first = unfold cheapest-total in omega arith
+  stays-affordable (one-more {before = before} {i = i} built next) =
+      let fits = stays-affordable built in
+      let q = question W before i in
+      let kept = subst (LeavesEnough q) (next .chosen) (keeps q some (enough-left W before fits i (next .task) (next .free))) in
+      omega (arith, kept, sum-unmarked-less (is-placed before) (lowest-cost W) (W .tasks) i (next .task) (next .free))
 
   -- All tasks are placed.
-  pub places-all : cheapest-total W ≤ W .budget → (rows : List Placed) × AllPlaced M W rows
-  places-all within =
-      let all = le-refl (W .tasks) in
-      let (rows, placed, fits) = never-stuck within (W .tasks) all in
-      let (built, count) = subst (PlacedSo M W (W .tasks)) placed (place-so M W chooses some (W .tasks) all) in
-      (rows, record { placed = placed; built = built; count = count; fits = fits })
+  pub places-all : ChoosesProcessors M → AllPlaced M W (place M W (W .tasks))
+  places-all chooses =
+      let (built, count) = place-built M W chooses some (W .tasks) (le-refl (W .tasks)) in
+      record { built = built; count = count; fits = stays-affordable built }
 
-pub HBCS-places-all : (W : Workflow) → 1 ≤ W .processors → cheapest-total W ≤ W .budget → (rows : List Placed) × AllPlaced HBCS W rows
-HBCS-places-all W = places-all HBCS W HBCS-chooses-processors HBCS-keeps-within
+module _ (W : Workflow) (some : 1 ≤ W .processors) (within : cheapest-total W ≤ W .budget) where
+  pub HBCS-places-all : AllPlaced HBCS W (place HBCS W (W .tasks))
+  HBCS-places-all = places-all HBCS W HBCS-keeps-within some within HBCS-chooses-processors
+
+  pub HBCS-enough-left :
+      {rows : List Placed} → Built HBCS W rows → (i : ℕ) → i < W .tasks → is-placed rows i ≡ false → CheapestLeavesEnough (question W rows i)
+  HBCS-enough-left built = enough-left W _ (stays-affordable HBCS W HBCS-keeps-within some within built)
+
+  -- At every step of the placing: so many tasks are placed, and one is in hand.
+  module _ (k : ℕ) (more : k < W .tasks) where
+    abbrev in-hand : ℕ
+    in-hand = next-task W (is-placed (place HBCS W k))
+
+    abbrev asked : Question
+    asked = question W (place HBCS W k) in-hand
+
+    enough : CheapestLeavesEnough asked
+    enough =
+        let (built, count) = place-built HBCS W HBCS-chooses-processors some k (omega arith) in
+        let (task, free) = next-task-free HBCS W (place HBCS W k) built (omega arith) in
+        HBCS-enough-left built in-hand task free
+
+    -- The cheapest processor can be taken, and each if there are more than one;
+    pub cheapest-can-always-be-taken :
+        (j : ℕ) → j < W .processors → ((i : ℕ) → i < W .processors → cost W in-hand j ≤ cost W in-hand i) → MayBeTaken asked (best asked) j
+    unfolding question
+    cheapest-can-always-be-taken = cheapest-may-be-taken asked enough
+
+    -- and what the method takes can.
+    pub what-is-taken-may-be : MayBeTaken asked (best asked) (HBCS asked)
+    unfolding question
+    what-is-taken-may-be = may-of-test asked (HBCS asked) (HBCS-chooses-processors asked some) (HBCS-may-be-taken asked some enough)

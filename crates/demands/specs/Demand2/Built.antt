@@ -1,6 +1,6 @@
 -- How placing goes, by any method whose choices are processors: each task is the next, not placed before, and on the processor that was chosen.
 use Prim.Native.Nat.{ℕ, zero, suc, _+_, _≤_, _<_}
-use mathlib.Core.Path.{_≡_, refl, subst}
+use mathlib.Core.Path.{_≡_, refl, ap}
 use mathlib.Core.Bool.{false}
 use mathlib.Core.List.{List, [], _∷_}
 use native.Mathlib.Omega.{arith}
@@ -8,8 +8,8 @@ use lib.ListN.{length}
 use Rattle.rules.specs.Workflow.{Workflow}
 use Rattle.rules.specs.Ranks.{next-task}
 use Rattle.rules.specs.Rows.{Placed, is-placed}
-use Rattle.rules.specs.Method.{Choice, take, nothing, Method}
-use Rattle.rules.specs.Placing.{question, row-on, Placing, so-far, stuck, put, place-next, place}
+use Rattle.rules.specs.Method.{Method}
+use Rattle.rules.specs.Placing.{question, row-on, place-next, place}
 use Rattle.laws.specs.Unmarked.{count-unmarked, sum-unmarked-less, count-unmarked-at-first}
 use Rattle.laws.specs.NextTask as laws
 use Rattle.demands.specs.Ground.MethodLaws.{ChoosesProcessors}
@@ -19,7 +19,7 @@ pub record Next (M : Method) (W : Workflow) (before : List Placed) (i j : ℕ) :
   pub is-next : next-task W (is-placed before) ≡ i
   pub task : i < W .tasks
   pub free : is-placed before i ≡ false
-  pub chosen : M (question W before i) ≡ take j
+  pub chosen : M (question W before i) ≡ j
   pub processor : j < W .processors
 
 abbrev pub placed-on : Workflow → List Placed → ℕ → ℕ → Placed
@@ -42,30 +42,14 @@ module _ (M : Method) (W : Workflow) where
       → (next-task W (is-placed rows) < W .tasks) × (is-placed rows (next-task W (is-placed rows)) ≡ false)
   next-task-free rows built l = laws.next-task-free W (is-placed rows) (omega (arith, built-count built))
 
-  -- Where placing is not stuck, k tasks are placed so.
-  abbrev pub PlacedSo : ℕ → Placing → Type 0
-  PlacedSo k (so-far rows) = Built M W rows × (length rows ≡ k)
-  PlacedSo k (stuck i) = Unit {0}
-
-  module _ (chooses : ChoosesProcessors M) (some : 1 ≤ W .processors) where
-    put-so :
-        (rows : List Placed) → Built M W rows → (i : ℕ) → next-task W (is-placed rows) ≡ i → i < W .tasks → is-placed rows i ≡ false
-        → (choice : Choice) → M (question W rows i) ≡ choice → PlacedSo (suc (length rows)) (put W rows i choice)
-    unfolding put question
-    put-so rows built i is-next task free (take j) chosen =
-        let processor = chooses (question W rows i) j some chosen in
-        (one-more built (record { is-next = is-next; task = task; free = free; chosen = chosen; processor = processor }), refl)
-    put-so rows built i is-next task free nothing chosen = tt
-
-    pub place-so : (k : ℕ) → k ≤ W .tasks → PlacedSo k (place M W k)
-    unfolding place place-next
-    place-so zero l = (at-first, refl)
-    place-so (suc k) l = go (place M W k) (place-so k (omega arith))
-      where
-        go : (placing : Placing) → PlacedSo k placing → PlacedSo (suc k) (place-next M W placing)
-        go (so-far rows) so =
-            let i = next-task W (is-placed rows) in
-            let (task, free) = next-task-free rows (so .0) (omega (arith, so .1)) in
-            let choice = M (question W rows i) in
-            subst (λ n. PlacedSo (suc n) (put W rows i choice)) (so .1) (put-so rows (so .0) i refl task free choice refl)
-        go (stuck i) so = tt
+  -- The first k tasks are placed so.
+  pub place-built :
+      ChoosesProcessors M → 1 ≤ W .processors → (k : ℕ) → k ≤ W .tasks → Built M W (place M W k) × (length (place M W k) ≡ k)
+  unfolding place place-next question
+  place-built chooses some zero l = (at-first, refl)
+  place-built chooses some (suc k) l =
+      let (built, count) = place-built chooses some k (omega arith) in
+      let (task, free) = next-task-free (place M W k) built (omega arith) in (
+        one-more built (record { is-next = refl; task = task; free = free; chosen = refl; processor = chooses _ some }),
+        ap suc count,
+      )

@@ -1,6 +1,6 @@
 -- What demand 2 says is due settles the outcome: whatever is due for a good workflow is what the definitions give, so two that are due are equal.
 use Prim.Native.Nat.{ℕ, _≤_, _<_}
-use mathlib.Core.Path.{_≡_, sym, ap, _∙_}
+use mathlib.Core.Path.{_≡_, sym, _∙_}
 use mathlib.Core.Bool.{Bool, true, false}
 use mathlib.Core.List.{List}
 use native.Mathlib.Omega.{arith}
@@ -10,7 +10,7 @@ use Rattle.rules.specs.Cycle.{Leads, cyclic, lowest-in-cycle}
 use Rattle.rules.specs.Ranks.{cost, cheapest-total}
 use Rattle.rules.specs.Rows.{Placed, row-of, spent, length-of}
 use Rattle.rules.specs.Method.{HBCS}
-use Rattle.rules.specs.Placing.{so-far, place}
+use Rattle.rules.specs.Placing.{place}
 use Rattle.rules.specs.Answer.{Outcome, plan, refuse, too-late, placed-outcome, outcome-by}
 use Rattle.laws.specs.Tests.{false-unless-true}
 use Rattle.laws.specs.Folds.{sum-same}
@@ -33,11 +33,11 @@ module _ (W : Workflow) (good : GoodWorkflow W) where
       let costs : costs-in-all W on ≡ spent rows = sum-same (W .tasks) _ _ (λ i l. sym (p .rows-true i l .cost)) ∙ sym (p .cost-sum) in
       omega (arith, cheapest-at-most-any W on (λ i l. p .rows-true i l .processor), p .left-over)
 
-  place-settled : (rows : List Placed) → MethodsPlan W rows → place HBCS W (W .tasks) ≡ so-far rows
+  place-settled : (rows : List Placed) → MethodsPlan W rows → place HBCS W (W .tasks) ≡ rows
   place-settled rows p =
-      let (rows′, all) = HBCS-places-all W (good .processors) (plan-within rows p) in
-      let steps = steps-as-the-method W (good .processors) (all .built) in
-      all .placed ∙ ap so-far (steps-settled W rows′ rows steps (p .steps) (all .count ∙ sym (p .none-twice)))
+      let all = HBCS-places-all W (good .processors) (plan-within rows p) in
+      let steps = steps-as-the-method W (good .processors) (plan-within rows p) (all .built) in
+      steps-settled W (place HBCS W (W .tasks)) rows steps (p .steps) (all .count ∙ sym (p .none-twice))
 
   module _ (lent : ℕ) where
     outcome-planned :

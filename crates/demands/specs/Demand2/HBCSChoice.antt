@@ -1,20 +1,18 @@
--- What HBCS chooses: a processor that may be taken, with the highest score among those that may, ties to earlier finish, then lower number.
--- Where the cheapest leaves enough for the tasks still to come, there is one.
-use Prim.Native.Nat.{ℕ, _+_, _≤_, _<_}
-use mathlib.Core.Path.{_≡_, refl, sym, ap₂, subst}
-use mathlib.Core.Bool.{true, false, _&&_}
+-- What HBCS chooses, where the cheapest processor leaves enough for the tasks still to come: then that one may be taken, and the choice is a processor
+-- that may be, with the highest score among those, ties to earlier finish, then lower number.
+use Prim.Native.Nat.{ℕ, _≤_, _<_}
+use mathlib.Core.Path.{_≡_, refl, sym}
+use mathlib.Core.Bool.{true, false}
 use native.Mathlib.Omega.{arith}
-use borrow.Author.Tests.{le-leb}
-use Rattle.rules.specs.Folds.{lowest}
 use Rattle.rules.specs.Orders.{Order, tie, lower, higher}
-use Rattle.rules.specs.Method.{Question, take, best, may-be-taken, score, preferred, HBCS}
+use Rattle.rules.specs.Method.{Question, best, may-be-taken, score, preferred, HBCS}
 use Rattle.laws.specs.Folds.{lowest-at-most, lowest-attained}
 use Rattle.laws.specs.Orders.{lower-false, higher-false}
-use Rattle.laws.specs.First.{first-below, first-passes}
-use Rattle.laws.specs.Method.{chosen, HBCS-taken, HBCS-takes-processor}
+use Rattle.laws.specs.First.{first-passes}
+use Rattle.laws.specs.Method.{HBCS-takes-processor}
 use Rattle.laws.specs.Strict.{Strict, tie-strict, lower-strict, higher-strict, first-among-unbeaten, first-among-lowest}
-use Rattle.demands.specs.Ground.Best.{may-of-test}
-use Rattle.demands.specs.Ground.MethodLaws.{ChoosesProcessors, Affords, KeepsWithin}
+use Rattle.demands.specs.Ground.Best.{MayBeTaken, best-below, may-of-test, test-of-may}
+use Rattle.demands.specs.Ground.MethodLaws.{ChoosesProcessors, LeavesEnough, CheapestLeavesEnough, KeepsWithin}
 
 -- "The highest score among those that may be taken wins; ties to earlier finish, then lower number."
 pub record Wins (q : Question) (j : ℕ) : Type 0 where
@@ -33,56 +31,54 @@ module _ (q : Question) where
   ties-strict = higher-strict (score q) (lower-strict (q .finish) tie-strict)
 
   module _ (i : ℕ) (below : i < q .processors) (passes : may-be-taken q i ≡ true) where
-    chosen-unbeaten : (score q i ≤ score q (chosen q)) × (score q (chosen q) ≡ score q i → lower (q .finish) tie i (chosen q) ≡ false)
-    unfolding preferred
-    chosen-unbeaten =
-        higher-false (score q) (lower (q .finish) tie) i (chosen q) .0
+    unbeaten : (score q i ≤ score q (HBCS q)) × (score q (HBCS q) ≡ score q i → lower (q .finish) tie i (HBCS q) ≡ false)
+    unfolding HBCS preferred
+    unbeaten =
+        higher-false (score q) (lower (q .finish) tie) i (HBCS q) .0
         (first-among-unbeaten (may-be-taken q) ties-strict (q .processors) i below passes)
 
-    chosen-lowest : score q i ≡ score q (chosen q) → q .finish i ≡ q .finish (chosen q) → chosen q ≤ i
-    unfolding preferred
-    chosen-lowest e f =
+    lowest-of-equals : score q i ≡ score q (HBCS q) → q .finish i ≡ q .finish (HBCS q) → HBCS q ≤ i
+    unfolding HBCS preferred
+    lowest-of-equals e f =
         first-among-lowest (may-be-taken q) ties-strict (q .processors) i below passes
-        (higher-false (score q) (lower (q .finish) tie) (chosen q) i .1
-        (omega arith, λ _. lower-false (q .finish) tie (chosen q) i .1 (omega arith, λ _. unfold tie in refl)))
+        (higher-false (score q) (lower (q .finish) tie) (HBCS q) i .1
+        (omega arith, λ _. lower-false (q .finish) tie (HBCS q) i .1 (omega arith, λ _. unfold tie in refl)))
 
-  module _ (some : 1 ≤ q .processors) where
-    chosen-wins : may-be-taken q (chosen q) ≡ true → Wins q (chosen q)
-    chosen-wins may =
+  -- A processor with the lowest cost may be taken.
+  pub cheapest-may-be-taken :
+      CheapestLeavesEnough q → (j : ℕ) → j < q .processors → ((k : ℕ) → k < q .processors → q .cost j ≤ q .cost k) → MayBeTaken q (best q) j
+  cheapest-may-be-taken enough j below cheapest =
+      let (k, there, lowest) = lowest-attained (q .processors) (q .cost) (omega arith) in
+      record {
+        processor = below;
+        as-best = cheapest (best q) (best-below q j below);
+        leaves-enough = omega (arith, cheapest k there);
+      }
+
+  module _ (some : 1 ≤ q .processors) (enough : CheapestLeavesEnough q) where
+    -- So the choice may be.
+    pub HBCS-may-be-taken : may-be-taken q (HBCS q) ≡ true
+    unfolding HBCS preferred
+    HBCS-may-be-taken =
+        let (j, below, lowest) = lowest-attained (q .processors) (q .cost) some in
+        let may = cheapest-may-be-taken enough j below (λ k l. omega (arith, lowest-at-most (q .processors) (q .cost) k l)) in
+        first-passes (may-be-taken q) ties (q .processors) j below (test-of-may q j may)
+
+    pub HBCS-wins : Wins q (HBCS q)
+    HBCS-wins =
         record {
-          processor = first-below (q .processors) (preferred q) some;
-          may = may;
-          highest = λ i below passes. chosen-unbeaten i below passes .0;
-          then-earliest = λ i below passes e. lower-false (q .finish) tie i (chosen q) .0 (chosen-unbeaten i below passes .1 (sym e)) .0;
-          then-lowest = chosen-lowest;
+          processor = HBCS-takes-processor q some;
+          may = HBCS-may-be-taken;
+          highest = λ i below passes. unbeaten i below passes .0;
+          then-earliest = λ i below passes e. lower-false (q .finish) tie i (HBCS q) .0 (unbeaten i below passes .1 (sym e)) .0;
+          then-lowest = lowest-of-equals;
         }
 
-    pub HBCS-wins : (j : ℕ) → HBCS q ≡ take j → Wins q j
-    HBCS-wins j e = let (same, may) = HBCS-taken q j e in subst (Wins q) same (chosen-wins may)
-
-    module _ (fits : lowest (q .processors) (q .cost) + q .RCB ≤ q .RB) where
-      -- The cheapest may be taken.
-      some-may-be-taken : (j : ℕ) × (j < q .processors) × (may-be-taken q j ≡ true)
-      unfolding may-be-taken best
-      some-may-be-taken =
-          let (j, below, cheapest) = lowest-attained (q .processors) (q .cost) some in
-          let at-most = lowest-at-most (q .processors) (q .cost) (best q) (first-below (q .processors) _ some) in
-          (j, below, ap₂ _&&_ (le-leb (q .cost j) (q .cost (best q)) (omega arith)) (le-leb (q .cost j + q .RCB) (q .RB) (omega arith)))
-
-      chosen-may-be-taken : may-be-taken q (chosen q) ≡ true
-      unfolding preferred
-      chosen-may-be-taken =
-          let (j, below, may) = some-may-be-taken in
-          first-passes (may-be-taken q) ties (q .processors) j below may
-
-      HBCS-affords : Affords q (HBCS q)
-      unfolding HBCS
-      HBCS-affords =
-          let below = first-below (q .processors) (preferred q) some in
-          record { on = chosen q; taken = rw chosen-may-be-taken; fits = may-of-test q (chosen q) below chosen-may-be-taken .leaves-enough }
+    HBCS-leaves-enough : LeavesEnough q (HBCS q)
+    HBCS-leaves-enough = may-of-test q (HBCS q) (HBCS-takes-processor q some) HBCS-may-be-taken .leaves-enough
 
 pub HBCS-chooses-processors : ChoosesProcessors HBCS
 HBCS-chooses-processors = HBCS-takes-processor
 
 pub HBCS-keeps-within : KeepsWithin HBCS
-HBCS-keeps-within = HBCS-affords
+HBCS-keeps-within = HBCS-leaves-enough

@@ -16,6 +16,7 @@ use Rattle.rules.specs.Cycle.{Leads, cyclic, lowest-in-cycle}
 use Rattle.rules.specs.Ranks.{cheapest-total, rank-by, R}
 use Rattle.rules.specs.Rows.{Placed, row-of, is-placed, spent, length-of}
 use Rattle.rules.specs.Method.{HBCS}
+use Rattle.rules.specs.Placing.{place}
 use Rattle.rules.specs.Answer.{Outcome, plan, refusal, too-late, placed-outcome, outcome-by, outcome}
 use Rattle.laws.specs.Unmarked.{count-unmarked, none-unmarked}
 use Rattle.laws.specs.Cycles.{LowestInCycle, none-leads-back, lowest-in-cycle-lowest}
@@ -27,7 +28,7 @@ use Rattle.demands.specs.Demand2.Built.{built-count}
 use Rattle.demands.specs.Demand2.Steps.{EachStep, AsTheMethod, steps-as-the-method}
 use Rattle.demands.specs.Demand2.Sound.{RowTrue, Apart, rows-true, rows-apart}
 use Rattle.demands.specs.Demand2.Arrived.{arrives, rows-arrived}
-use Rattle.demands.specs.Demand2.Affordable.{AllPlaced, HBCS-places-all}
+use Rattle.demands.specs.Demand2.Affordable.{HBCS-places-all}
 use Rattle.demands.specs.Demand2.Totals.{spent-is-sum, length-is-largest}
 use Rattle.demands.specs.Demand2.Cheapest.{Assignment, costs-in-all, cheapest-at-most-any, cheapest-attained}
 
@@ -58,7 +59,7 @@ pub record TooDear (W : Workflow) (total : ℕ) : Type 0 where
   pub at-least : (on : ℕ → ℕ) → Assignment W on → total ≤ costs-in-all W on
   pub cheapest : (on : ℕ → ℕ) × Assignment W on × (costs-in-all W on ≡ total)
 
--- What is due for a workflow and so many rows lent. 10 is never due.
+-- What is due for a workflow and so many rows lent.
 pub data Due (W : Workflow) (lent : ℕ) : Outcome → Type 0 where
   seven : lent < W .tasks → Due W lent (refusal 7 (W .tasks))
   eight : {i : ℕ} → W .tasks ≤ lent → LowestInCycle W i → Due W lent (refusal 8 i)
@@ -79,10 +80,9 @@ plan-is-the-methods W good lent =
     refuse-either (Due W lent) (ltb (W .budget) (cheapest-total W)) 9 (cheapest-total W) _
     (λ dear. nine placeable (too-dear (ltb-true (W .budget) (cheapest-total W) dear)))
     (λ within.
-    let (rows, all) = HBCS-places-all W (good .processors) (ltb-false (W .budget) (cheapest-total W) within) in
-    let p = methods-plan (placeable .acyclic) rows all in
-    rw (all .placed)
-    (refuse-either (Due W lent) (too-late (W .deadline) (length-of rows)) 11 (length-of rows) (plan W rows) (eleven placeable p) (planned placeable p)))))
+    let rows = place HBCS W (W .tasks) in
+    let p = methods-plan (placeable .acyclic) (ltb-false (W .budget) (cheapest-total W) within) in
+    refuse-either (Due W lent) (too-late (W .deadline) (length-of rows)) 11 (length-of rows) (plan W rows) (eleven placeable p) (planned placeable p))))
   where
     too-dear : W .budget < cheapest-total W → TooDear W (cheapest-total W)
     too-dear dear =
@@ -92,8 +92,10 @@ plan-is-the-methods W good lent =
           cheapest = cheapest-attained W (good .processors);
         }
 
-    methods-plan : ((i : ℕ) → Leads W i i → ⊥) → (rows : List Placed) → AllPlaced HBCS W rows → MethodsPlan W rows
-    methods-plan acyclic rows all-of-them =
+    methods-plan : ((i : ℕ) → Leads W i i → ⊥) → cheapest-total W ≤ W .budget → MethodsPlan W (place HBCS W (W .tasks))
+    methods-plan acyclic within =
+        let rows = place HBCS W (W .tasks) in
+        let all-of-them = HBCS-places-all W (good .processors) within in
         let built = all-of-them .built in
         let none-left : count-unmarked (W .tasks) (is-placed rows) ≡ 0 = omega (arith, built-count HBCS W built, all-of-them .count) in
         let all = none-unmarked (is-placed rows) (W .tasks) none-left in
@@ -101,7 +103,7 @@ plan-is-the-methods W good lent =
           ranks = R-equation W (good .to) acyclic;
           all-placed = all;
           none-twice = all-of-them .count;
-          steps = steps-as-the-method W (good .processors) built;
+          steps = steps-as-the-method W (good .processors) within built;
           rows-true = λ i l. rows-true HBCS W built i (all i l);
           apart = λ i k l m. rows-apart HBCS W built i k (all i l) (all k m);
           arrived = λ e l. rows-arrived HBCS W good acyclic built (W .to e) (all (W .to e) (good .to e l)) e l refl .1;
@@ -109,14 +111,6 @@ plan-is-the-methods W good lent =
           cost-sum = spent-is-sum HBCS W built;
           left-over = omega (arith, all-of-them .fits);
         }
-
--- "some task has no processor it may take" never comes.
-pub ten-is-never-due : {W : Workflow} {lent : ℕ} {outcome : Outcome} → Due W lent outcome → (i : ℕ) → outcome ≡ refusal 10 i → ⊥
-ten-is-never-due (seven few) i e = let z : _≡_ {A = ℕ} 7 10 = cc in omega arith
-ten-is-never-due (eight enough lowest) i e = let z : _≡_ {A = ℕ} 8 10 = cc in omega arith
-ten-is-never-due (nine placeable dear) i e = let z : _≡_ {A = ℕ} 9 10 = cc in omega arith
-ten-is-never-due (eleven placeable p late) i e = let z : _≡_ {A = ℕ} 11 10 = cc in omega arith
-ten-is-never-due (planned placeable p in-time) i e = let z : _≡_ {A = ℕ} 0 1 = cc in omega arith
 
 -- A request that passes reading gets what is due to its workflow.
 pub requests-get-their-due :

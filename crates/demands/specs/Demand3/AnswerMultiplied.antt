@@ -13,8 +13,8 @@ use Rattle.rules.specs.Workflow.{Workflow}
 use Rattle.rules.specs.Cycle.{cyclic, lowest-in-cycle}
 use Rattle.rules.specs.Ranks.{cheapest-total}
 use Rattle.rules.specs.Method.{Method}
-use Rattle.rules.specs.Rows.{Row, row-of, length-of}
-use Rattle.rules.specs.Placing.{RB, Placing, so-far, stuck, place}
+use Rattle.rules.specs.Rows.{Row, Placed, row-of, length-of}
+use Rattle.rules.specs.Placing.{RB, place}
 use Rattle.rules.specs.Answer.{Outcome, plan, refusal, refuse, too-late, placed-outcome, outcome-by, planned, answer-of, written}
 use Rattle.rules.specs.Buffers.{Buffers, row-in, buffers-written}
 use Rattle.rules.specs.Multiplied.{multiplied-deadline, multiplied, multiplied-row, multiplied-place, multiplied-answer}
@@ -24,7 +24,7 @@ use Rattle.demands.specs.Ground.MethodLaws.{KeepsChoices}
 use Rattle.demands.specs.Ground.Held.{row-in-written}
 use Rattle.demands.specs.Demand3.CostsMultiplied.{cheapest-total-multiplied, cyclic-multiplied, lowest-in-cycle-multiplied}
 use Rattle.demands.specs.Demand3.RowsMultiplied.{multiplied-placed, row-of-multiplied, spent-multiplied, length-of-multiplied}
-use Rattle.demands.specs.Demand3.PlacingMultiplied.{multiplied-placing, RB-multiplied, place-multiplied}
+use Rattle.demands.specs.Demand3.PlacingMultiplied.{RB-multiplied, place-multiplied}
 
 unfoldable pub multiplied-outcome : ℕ → ℕ → Outcome → Outcome
 multiplied-outcome a b (plan W rows) = plan (multiplied a b W) (map (multiplied-placed a b) rows)
@@ -45,12 +45,11 @@ too-late-multiplied a pa (by d) length = ltb-multiplied a pa d length
 
 module _ (a b : ℕ) (pa : 1 ≤ a) (W : Workflow) where
   placed-outcome-multiplied :
-      (placing : Placing) → placed-outcome (multiplied a b W) (multiplied-placing a b placing) ≡ multiplied-outcome a b (placed-outcome W placing)
-  unfolding placed-outcome multiplied-placing multiplied-outcome multiplied-place multiplied
-  placed-outcome-multiplied (so-far rows) =
+      (rows : List Placed) → placed-outcome (multiplied a b W) (map (multiplied-placed a b) rows) ≡ multiplied-outcome a b (placed-outcome W rows)
+  unfolding placed-outcome multiplied-outcome multiplied-place multiplied
+  placed-outcome-multiplied rows =
       rw (length-of-multiplied a b rows, too-late-multiplied a pa (W .deadline) (length-of rows))
       (refuse-multiplied a b (too-late (W .deadline) (length-of rows)) 11 (length-of rows) (plan W rows))
-  placed-outcome-multiplied (stuck i) = refl
 
   pub outcome-by-multiplied :
       1 ≤ b → (M : Method) → KeepsChoices M → (lent : ℕ)

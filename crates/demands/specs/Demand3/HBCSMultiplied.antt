@@ -8,7 +8,7 @@ use native.Mathlib.Omega.{arith}
 use native.Mathlib.Nat.{mul-add, mul-sub}
 use lib.Dec.{leb}
 use borrow.Author.Tests.{lt-leb}
-use Rattle.rules.specs.Orders.{tie, among, first}
+use Rattle.rules.specs.Orders.{tie, among}
 use Rattle.rules.specs.Method.{Question, best, may-be-taken, latest-finish, B, F, score, preferred, HBCS}
 use Rattle.laws.specs.Tests.{leb-multiplied}
 use Rattle.laws.specs.Folds.{largest-multiplied, lowest-multiplied}
@@ -83,10 +83,7 @@ module _ (a c : ℕ) (pa : 1 ≤ a) (pc : 1 ≤ c) (q : Question) where
   HBCS-multiplied : HBCS (multiplied-question a c q) ≡ HBCS q
   unfolding HBCS multiplied-question
   HBCS-multiplied =
-      rw (
-        first-same (q .processors) (preferred (multiplied-question a c q)) (preferred q) preferred-multiplied,
-        may-be-taken-multiplied (first (q .processors) (preferred q)),
-      )
+      first-same (q .processors) (preferred (multiplied-question a c q)) (preferred q) preferred-multiplied
 
 pub HBCS-keeps-choices : KeepsChoices HBCS
 HBCS-keeps-choices = HBCS-multiplied

@@ -10,8 +10,8 @@ use Rattle.rules.specs.Workflow.{Workflow}
 use Rattle.rules.specs.Ranks.{lowest-cost, next-task}
 use Rattle.rules.specs.Start.{arrival, ready}
 use Rattle.rules.specs.Rows.{Placed, row-of, is-placed, busy, spent}
-use Rattle.rules.specs.Method.{Choice, take, nothing, Method}
-use Rattle.rules.specs.Placing.{ready-for, start-of, finish-of, RB, RCB, question, row-on, Placing, so-far, stuck, put, place-next, place}
+use Rattle.rules.specs.Method.{Method}
+use Rattle.rules.specs.Placing.{ready-for, start-of, finish-of, RB, RCB, question, row-on, place-next, place}
 use Rattle.rules.specs.Multiplied.{multiplied, multiplied-row}
 use Rattle.laws.specs.Numbers.{or-zero-multiplied, zero-or-multiplied}
 use Rattle.laws.specs.Folds.{sum-multiplied, largest-multiplied}
@@ -20,10 +20,6 @@ use Rattle.demands.specs.Ground.MethodLaws.{multiplied-question, KeepsCh
 use Rattle.demands.specs.Demand3.CostsMultiplied.{cost-multiplied, lowest-cost-multiplied, next-task-multiplied}
 use Rattle.demands.specs.Demand3.RowsMultiplied.{multiplied-placed, is-placed-multiplied, row-of-multiplied, spent-multiplied}
 use Rattle.demands.specs.Demand3.RowsMultiplied.{busy-multiplied}
-
-unfoldable pub multiplied-placing : ℕ → ℕ → Placing → Placing
-multiplied-placing a b (so-far rows) = so-far (map (multiplied-placed a b) rows)
-multiplied-placing a b (stuck i) = stuck i
 
 module _ (a b : ℕ) (pa : 1 ≤ a) (W : Workflow) where
   abbrev W′ : Workflow
@@ -75,38 +71,30 @@ module _ (a b : ℕ) (pa : 1 ≤ a) (W : Workflow) where
           RCB = RCB-multiplied i t;
         }
 
-    put-multiplied : (i : ℕ) (choice : Choice) → put W′ rows′ i choice ≡ multiplied-placing a b (put W rows i choice)
-    unfolding put multiplied-placing multiplied-placed multiplied-row row-on
-    put-multiplied i (take j) =
-        λ t. so-far
-        (record {
-          task = i;
-          row = record {
-            processor = j;
-            start = start-of-multiplied i j t;
-            finish = finish-of-multiplied i j t;
-            cost = cost-multiplied a b W i j t;
-          };
+    row-on-multiplied : (i j : ℕ) → row-on W′ rows′ i j ≡ multiplied-row a b (row-on W rows i j)
+    unfolding row-on multiplied-row
+    row-on-multiplied i j =
+        λ t. record {
+          processor = j;
+          start = start-of-multiplied i j t;
+          finish = finish-of-multiplied i j t;
+          cost = cost-multiplied a b W i j t;
         }
-        ∷ rows′)
-    put-multiplied i nothing = refl
 
   module _ (pb : 1 ≤ b) (M : Method) (keeps : KeepsChoices M) where
-    place-next-multiplied :
-        (placing : Placing) → place-next M W′ (multiplied-placing a b placing) ≡ multiplied-placing a b (place-next M W placing)
-    unfolding place-next multiplied-placing
-    place-next-multiplied (so-far rows) =
-        ap (λ i. put W′ (rows′ rows) i (M (question W′ (rows′ rows) i)))
+    place-next-multiplied : (rows : List Placed) → place-next M W′ (rows′ rows) ≡ rows′ (place-next M W rows)
+    unfolding place-next multiplied-placed
+    place-next-multiplied rows =
+        ap (λ i. record { task = i; row = row-on W′ (rows′ rows) i (M (question W′ (rows′ rows) i)) } ∷ rows′ rows)
         (ap (next-task W′) (fun-ext (is-placed-multiplied a b rows)) ∙ next-task-multiplied a b W pa (is-placed rows))
         ∙ go (next-task W (is-placed rows))
       where
-        go : (i : ℕ) → put W′ (rows′ rows) i (M (question W′ (rows′ rows) i)) ≡ multiplied-placing a b (put W rows i (M (question W rows i)))
+        go : (i : ℕ) → record { task = i; row = row-on W′ (rows′ rows) i (M (question W′ (rows′ rows) i)) } ∷ rows′ rows
+            ≡ rows′ (record { task = i; row = row-on W rows i (M (question W rows i)) } ∷ rows)
         go i =
-            rw (question-multiplied rows i, keeps a (a * b) pa (mul-pos pa pb) (question W rows i))
-            (put-multiplied rows i (M (question W rows i)))
-    place-next-multiplied (stuck i) = refl
+            rw (question-multiplied rows i, keeps a (a * b) pa (mul-pos pa pb) (question W rows i), row-on-multiplied rows i (M (question W rows i)))
 
-    pub place-multiplied : (k : ℕ) → place M W′ k ≡ multiplied-placing a b (place M W k)
-    unfolding place multiplied-placing
+    pub place-multiplied : (k : ℕ) → place M W′ k ≡ rows′ (place M W k)
+    unfolding place
     place-multiplied zero = refl
     place-multiplied (suc k) = rw (place-multiplied k) (place-next-multiplied (place M W k))

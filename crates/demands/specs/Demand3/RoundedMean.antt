@@ -3,16 +3,16 @@
 use Prim.Native.Nat.{ℕ, zero, suc, _+_, _*_, _/_, _≤_}
 use mathlib.Core.Path.{_≡_, refl, sym, _∙_}
 use mathlib.Core.Bool.{Bool, cond, not, _&&_}
-use mathlib.Core.List.{[]}
+use mathlib.Core.List.{List, [], _∷_}
 use native.Mathlib.Omega.{arith}
 use lib.Dec.{eqb}
 use Rattle.rules.specs.Folds.{sum, largest}
 use Rattle.rules.specs.Orders.{tie, higher, among, first}
 use Rattle.rules.specs.Reading.{no-deadline}
 use Rattle.rules.specs.Workflow.{Workflow}
-use Rattle.rules.specs.Rows.{row-of, is-placed}
+use Rattle.rules.specs.Rows.{Placed, row-of, is-placed}
 use Rattle.rules.specs.Method.{HBCS}
-use Rattle.rules.specs.Placing.{question, Placing, so-far, stuck, put}
+use Rattle.rules.specs.Placing.{question, row-on}
 use Rattle.rules.specs.Multiplied.{multiplied, multiplied-deadline}
 use Rattle.rules.specs.Cases.{given}
 use Rattle.good.specs.Good.{Between}
@@ -33,23 +33,18 @@ rounded-rank W (suc most) = rounded-rank-by W (rounded-rank W most)
 next-rounded : Workflow → (ℕ → Bool) → ℕ
 next-rounded W placed = first (W .tasks) (among (λ i. not (placed i)) (higher (rounded-rank W (W .tasks)) tie))
 
-place-next-rounded : Workflow → Placing → Placing
-place-next-rounded W (so-far before) =
-    let i = next-rounded W (is-placed before) in
-    put W before i (HBCS (question W before i))
-place-next-rounded W (stuck i) = stuck i
+place-next-rounded : Workflow → List Placed → List Placed
+place-next-rounded W so-far =
+    let i = next-rounded W (is-placed so-far) in
+    record { task = i; row = row-on W so-far i (HBCS (question W so-far i)) } ∷ so-far
 
-place-rounded : Workflow → ℕ → Placing
-place-rounded W zero = so-far []
+place-rounded : Workflow → ℕ → List Placed
+place-rounded W zero = []
 place-rounded W (suc k) = place-next-rounded W (place-rounded W k)
 
--- The machine of task i in a plan.
-machine-in : Placing → ℕ → ℕ
-machine-in (so-far rows) i = row-of rows i .processor
-machine-in (stuck k) i = 0
-
+-- The machine of task i in such a plan.
 pub machine-rounded : Workflow → ℕ → ℕ
-machine-rounded W = machine-in (place-rounded W (W .tasks))
+machine-rounded W i = row-of (place-rounded W (W .tasks)) i .processor
 
 -- Two tasks on two processors, no edge.
 two-by-two : ℕ → (ℕ → ℕ → ℕ) → Workflow
@@ -99,7 +94,7 @@ near-between i j =
     (λ e. record { from-low = omega arith; to-high = omega arith }) (λ e. record { from-low = omega arith; to-high = omega arith })
 
 machines-change : (machine-rounded (two-by-two 10 near) 0 ≡ 0) × (machine-rounded (multiplied 2 1 (two-by-two 10 near)) 0 ≡ 1)
-unfolding given machine-rounded machine-in place-rounded place-next-rounded next-rounded rounded-rank rounded-rank-by near two-by-two multiplied
+unfolding given machine-rounded place-rounded place-next-rounded next-rounded rounded-rank rounded-rank-by near two-by-two multiplied
 machines-change = (refl, refl)
 
 pub rounded-mean-breaks-demand-3 :

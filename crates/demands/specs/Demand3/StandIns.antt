@@ -2,14 +2,14 @@
 -- term of the score is 0 for all that may be taken, and the second orders by finish, as the tie rule does.
 use Prim.Native.Nat.{ℕ, zero, suc, _+_, _*_, _-_, _≤_, _<_}
 use mathlib.Core.Path.{_≡_, refl, sym, ap, _∙_}
-use mathlib.Core.Bool.{Bool, true, false, cond, not, _&&_, _||_, and-false, or-false}
+use mathlib.Core.Bool.{Bool, true, false, not, _&&_, _||_, and-false, or-false}
 use mathlib.Core.Logic.{_⊎_, inl, inr}
 use native.Mathlib.Nat.{mul-zero, zero-mul, eq-zero-or-pos, mul-le-mul-right, mul-lt-mul-of-pos-right}
 use native.Mathlib.Omega.{arith}
 use lib.Dec.{ltb, eqb}
 use borrow.Author.Tests.{ltb-true, ltb-false, lt-ltb, le-ltb}
 use Rattle.rules.specs.Orders.{Order, tie, lower, higher, among, first}
-use Rattle.rules.specs.Method.{Question, Method, take, nothing, best, may-be-taken, latest-finish, B, F, or-one, score, preferred, HBCS}
+use Rattle.rules.specs.Method.{Question, Method, best, may-be-taken, latest-finish, B, F, or-one, score, preferred, HBCS}
 use Rattle.laws.specs.Folds.{at-most-largest}
 use Rattle.laws.specs.First.{first-same}
 use Rattle.demands.specs.Ground.Best.{best-below, may-of-test}
@@ -29,9 +29,7 @@ unfoldable pub preferred-with : (x y z : ℕ) → Question → Order
 preferred-with x y z q = among (may-be-taken q) (higher (score-with x y z q) (lower (q .finish) tie))
 
 unfoldable pub HBCS-with : (x y z : ℕ) → Method
-HBCS-with x y z q =
-    let j = first (q .processors) (preferred-with x y z q) in
-    cond (may-be-taken q j) (take j) nothing
+HBCS-with x y z q = first (q .processors) (preferred-with x y z q)
 
 or-this-positive : (x n : ℕ) → 0 < n → or-this x n ≡ or-one n
 unfolding or-this or-one
@@ -126,8 +124,7 @@ module _ (x y z : ℕ) (q : Question) where
   pub stand-ins-do-not-matter : HBCS-with x y z q ≡ HBCS q
   unfolding HBCS-with HBCS
   stand-ins-do-not-matter =
-      ap (λ j. cond (may-be-taken q j) (take j) nothing)
-      (first-same (q .processors) (preferred-with x y z q) (preferred q) same-preferred)
+      first-same (q .processors) (preferred-with x y z q) (preferred q) same-preferred
 
 -- So 0 in the place of 1 changes no choice.
 pub zero-for-one-changes-no-choice : (q : Question) → HBCS-with 0 0 0 q ≡ HBCS q

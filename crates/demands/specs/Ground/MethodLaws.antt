@@ -2,11 +2,11 @@
 use Prim.Native.Nat.{ℕ, _+_, _*_, _≤_, _<_}
 use mathlib.Core.Path.{_≡_}
 use Rattle.rules.specs.Folds.{lowest}
-use Rattle.rules.specs.Method.{Question, Choice, take, Method}
+use Rattle.rules.specs.Method.{Question, Method}
 
--- A choice is a processor.
+-- A choice is one of the processors there are.
 abbrev pub ChoosesProcessors : Method → Type 0
-ChoosesProcessors M = (q : Question) (j : ℕ) → 1 ≤ q .processors → M q ≡ take j → j < q .processors
+ChoosesProcessors M = (q : Question) → 1 ≤ q .processors → M q < q .processors
 
 -- A question with finishes a times and money c times another's.
 unfoldable pub multiplied-question : ℕ → ℕ → Question → Question
@@ -23,12 +23,14 @@ multiplied-question a c q =
 abbrev pub KeepsChoices : Method → Type 0
 KeepsChoices M = (a c : ℕ) → 1 ≤ a → 1 ≤ c → (q : Question) → M (multiplied-question a c q) ≡ M q
 
--- A choice that leaves enough for the tasks still to come.
-pub record Affords (q : Question) (choice : Choice) : Type 0 where
-  pub on : ℕ
-  pub taken : choice ≡ take on
-  pub fits : q .cost on + q .RCB ≤ q .RB
+-- What processor j costs leaves enough for the tasks still to come.
+abbrev pub LeavesEnough : Question → ℕ → Type 0
+LeavesEnough q j = q .cost j + q .RCB ≤ q .RB
+
+-- The lowest cost does.
+abbrev pub CheapestLeavesEnough : Question → Type 0
+CheapestLeavesEnough q = lowest (q .processors) (q .cost) + q .RCB ≤ q .RB
 
 -- Where the cheapest processor leaves enough, the choice does.
 abbrev pub KeepsWithin : Method → Type 0
-KeepsWithin M = (q : Question) → 1 ≤ q .processors → lowest (q .processors) (q .cost) + q .RCB ≤ q .RB → Affords q (M q)
+KeepsWithin M = (q : Question) → 1 ≤ q .processors → CheapestLeavesEnough q → LeavesEnough q (M q)
