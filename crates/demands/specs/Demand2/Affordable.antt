@@ -1,5 +1,5 @@
--- "Once the cheapest total fits, I believe the cheapest processor can always be taken": what is spent and the cheapest of what is left stay within the
--- budget, at every step of the placing. So there is always a processor that may be taken, and what the method takes may be.
+-- "Once the cheapest total fits, the cheapest processor can always be taken": what is spent and the cheapest of what is left stay within the budget, at
+-- every step of the placing. So there is always a processor that may be taken, and what the method takes may be.
 use Prim.Native.Nat.{ℕ, _+_, _≤_, _<_}
 use mathlib.Core.Path.{_≡_, subst}
 use mathlib.Core.Bool.{false}
