@@ -18,6 +18,11 @@ use Rattle.demands.specs.Ground.Best.{MayBeTaken, may-of-test}
 use Rattle.demands.specs.Demand2.HBCSChoice.{cheapest-may-be-taken, HBCS-chooses-processors, HBCS-may-be-taken, HBCS-keeps-within}
 use Rattle.demands.specs.Demand2.Built.{Built, at-first, one-more, next-task-free, place-built}
 
+-- No processor has a lower cost for task i than j has.
+pub record CheapestFor (W : Workflow) (i j : ℕ) : Type 0 where
+  pub processor : j < W .processors
+  pub lowest : (k : ℕ) → k < W .processors → cost W i j ≤ cost W i k
+
 -- What is spent, and the lowest costs of the tasks still to come.
 abbrev pub Affordable : Workflow → List Placed → Type 0
 Affordable W rows = spent rows + sum-unmarked (W .tasks) (is-placed rows) (lowest-cost W) ≤ W .budget
@@ -58,7 +63,7 @@ module _ (W : Workflow) (some : 1 ≤ W .processors) (within : cheapest-total W 
       {rows : List Placed} → Built HBCS W rows → (i : ℕ) → i < W .tasks → is-placed rows i ≡ false → CheapestLeavesEnough (question W rows i)
   HBCS-enough-left built = enough-left W _ (stays-affordable HBCS W HBCS-keeps-within some within built)
 
-  -- At every step of the placing: so many tasks are placed, and one is in hand.
+  -- At every step of the placing: k tasks are placed, and the next is in hand.
   module _ (k : ℕ) (more : k < W .tasks) where
     abbrev in-hand : ℕ
     in-hand = next-task W (is-placed (place HBCS W k))
@@ -72,13 +77,12 @@ module _ (W : Workflow) (some : 1 ≤ W .processors) (within : cheapest-total W 
         let (task, free) = next-task-free HBCS W (place HBCS W k) built (omega arith) in
         HBCS-enough-left built in-hand task free
 
-    -- The cheapest processor can be taken, and each if there are more than one;
-    pub cheapest-can-always-be-taken :
-        (j : ℕ) → j < W .processors → ((i : ℕ) → i < W .processors → cost W in-hand j ≤ cost W in-hand i) → MayBeTaken asked (best asked) j
+    -- The cheapest processor can be taken, and each where there are several;
+    pub cheapest-can-always-be-taken : (j : ℕ) → CheapestFor W in-hand j → MayBeTaken asked (best asked) j
     unfolding question
-    cheapest-can-always-be-taken = cheapest-may-be-taken asked enough
+    cheapest-can-always-be-taken j cheapest = cheapest-may-be-taken asked enough j (cheapest .processor) (cheapest .lowest)
 
-    -- and what the method takes can.
+    -- and so can what the method takes.
     pub what-is-taken-may-be : MayBeTaken asked (best asked) (HBCS asked)
     unfolding question
     what-is-taken-may-be = may-of-test asked (HBCS asked) (HBCS-chooses-processors asked some) (HBCS-may-be-taken asked some enough)
