@@ -25,7 +25,7 @@ enum { ZABGURIN_MOST_TASKS = 64 };
 enum { ZABGURIN_MOST_TEXT = 2145 };
 
 /* How a request is answered. number is 0 for a plan: then the plan has `tasks` rows, ends at minute `length`, costs `cost` and leaves `left` of the budget, and
-   place is 0. Else number is that of the refusal, 1 to 11, with its place, and the other four are 0:
+   place is 0. Else number is that of the refusal, 1 to 9 or 11, with its place, and the other four are 0:
 
     number                                                         place
     1   the input ends too early                                   offset of the record that is not whole
@@ -37,8 +37,9 @@ enum { ZABGURIN_MOST_TEXT = 2145 };
     7   fewer rows lent than there are tasks                       the number of tasks
     8   tasks wait for each other in a circle                      the lowest task that waits for itself
     9   the budget is too small                                    the cheapest total
-    10  no processor may be taken for a task (proved never to come) that task
-    11  the plan ends after the deadline                           its length */
+    11  the plan ends after the deadline                           its length
+
+   The number 10 is not used. */
 struct zabgurin_answer {
     uint64_t number;
     uint64_t place;

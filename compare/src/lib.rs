@@ -30,6 +30,9 @@ pub enum Answer {
     Refused { number: u64, place: u64 },
 }
 
+/// The numbers of the table of refusals. 10 is not one of them.
+pub const REFUSALS: [u64; 10] = [1, 2, 3, 4, 5, 6, 7, 8, 9, 11];
+
 impl From<Refusal> for Answer {
     fn from(Refusal { number, place }: Refusal) -> Answer {
         Answer::Refused { number, place }

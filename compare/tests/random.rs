@@ -1,9 +1,12 @@
 //! Random requests from a fixed seed: facts about every plan, worked out here
 //! from the numbers of the request, and damaged requests.
 
+use std::cmp::Reverse;
+
 use compare::build::Draft;
 use compare::random::{cheapest_total, cost, damage, draft, Limits, Random, FULL, SMALL};
-use compare::{label, plan, read, text, Answer, Row};
+use compare::shapes::{shaped, Budget, Deadline, GRAPHS, NUMBERS};
+use compare::{label, plan, ranks, read, text, Answer, Row, REFUSALS};
 
 /// What must hold of any answer to a good request with enough rows.
 fn check(draft: &Draft, answer: Answer, rows: &[Row]) {
@@ -30,14 +33,7 @@ fn check(draft: &Draft, answer: Answer, rows: &[Row]) {
         }
         // The data is there, and a task starts late only for its data or
         // behind another task on its processor.
-        let entering = draft.edges.iter().filter(|edge| usize::from(edge.1) == i);
-        let arrivals: Vec<u64> = entering
-            .map(|&(from, _, transfer)| {
-                let before = rows[usize::from(from)];
-                let same = before.processor == row.processor;
-                before.finish + if same { 0 } else { u64::from(transfer) }
-            })
-            .collect();
+        let arrivals: Vec<u64> = arrivals(draft, rows, i, row.processor).collect();
         assert!(arrivals.iter().all(|&arrival| arrival <= row.start));
         let behind = |other: &Row| other.processor == row.processor && other.finish == row.start;
         assert!(row.start == 0 || arrivals.contains(&row.start) || rows.iter().any(behind));
@@ -46,6 +42,21 @@ fn check(draft: &Draft, answer: Answer, rows: &[Row]) {
     assert_eq!(total + left, u64::from(draft.budget));
     assert_eq!(length, rows.iter().map(|row| row.finish).max().unwrap());
     assert!(draft.deadline.is_none_or(|deadline| length <= u64::from(deadline)));
+}
+
+/// When what this task waits for is there, if it runs on this processor.
+fn arrivals<'a>(
+    draft: &'a Draft,
+    rows: &'a [Row],
+    task: usize,
+    processor: u64,
+) -> impl Iterator<Item = u64> + 'a {
+    let entering = draft.edges.iter().filter(move |edge| usize::from(edge.1) == task);
+    entering.map(move |&(from, _, transfer)| {
+        let before = rows[usize::from(from)];
+        let same = before.processor == processor;
+        before.finish + if same { 0 } else { u64::from(transfer) }
+    })
 }
 
 /// Whether this task has a path back to itself and no lower task has: the
@@ -75,12 +86,15 @@ impl Met {
     fn note(&mut self, answer: Answer) {
         match answer {
             Answer::Planned { .. } => self.0[0] += 1,
-            Answer::Refused { number, .. } => self.0[number as usize] += 1,
+            Answer::Refused { number, .. } => {
+                assert!(REFUSALS.contains(&number), "no refusal has the number {number}");
+                self.0[number as usize] += 1;
+            }
         }
     }
 
-    fn at_least(&self, count: u64, numbers: &[usize]) {
-        assert!(numbers.iter().all(|&number| self.0[number] >= count), "{:?}", self.0);
+    fn at_least(&self, count: u64, numbers: &[u64]) {
+        assert!(numbers.iter().all(|&number| self.0[number as usize] >= count), "{:?}", self.0);
     }
 }
 
@@ -106,6 +120,64 @@ fn facts_of_full_plans() {
     check_many(&mut Random(0xD1B5_4A32_D192_ED03), &FULL, 3_000);
 }
 
+/// "Once the cheapest total fits, I believe the cheapest processor can always
+/// be taken" (document 02, A6). Each plan is gone through again, task by task,
+/// with the cheapest total for a budget, with one more and with more.
+#[test]
+fn the_cheapest_processor_can_always_be_taken() {
+    let mut random = Random(0xC4EA_9E57_0000_0001);
+    // The last of them has cycles.
+    let graphs = &GRAPHS[..GRAPHS.len() - 1];
+    let mut kept_from_best = 0;
+    for round in 0..6_000 {
+        let (most, widest) = if round % 10 == 0 { (64, 16) } else { (8, 4) };
+        let n = random.often_an_end(1, most) as usize;
+        let m = random.often_an_end(1, widest) as usize;
+        let (graph, numbers) = (random.one_of(graphs), random.one_of(&NUMBERS));
+        let shape = (graph, numbers, Budget::Cheapest, Deadline::None);
+        let mut draft = shaped(&mut random, (n, m), shape);
+        let cheapest = cheapest_total(&draft);
+        for more in [0, 1, random.within(2, cheapest + 2)] {
+            draft.budget = (cheapest + more).min(20_000_000) as u32;
+            let mut rows = [Row::default(); 64];
+            let answer = plan(&draft.bytes(), &mut rows);
+            assert!(matches!(answer, Answer::Planned { .. }), "{answer:?} for {draft:?}");
+            kept_from_best += placed_again(&draft, &rows);
+        }
+    }
+    assert!(kept_from_best >= 10_000, "{kept_from_best}");
+}
+
+/// Goes through a plan in placing order and holds what each task may take
+/// against its row. Gives how many tasks the budget kept from their best.
+fn placed_again(draft: &Draft, rows: &[Row]) -> usize {
+    let (n, m) = (draft.tasks.len(), draft.prices.len());
+    let ranks = ranks(&read(&draft.bytes()).unwrap()).unwrap();
+    let mut order: Vec<usize> = (0..n).collect();
+    order.sort_by_key(|&i| (Reverse(ranks[i]), i));
+    let (mut rb, mut rcb) = (u64::from(draft.budget), cheapest_total(draft));
+    let mut free_from = vec![0; m];
+    let mut kept_from_best = 0;
+    for i in order {
+        let finish = |j: usize| {
+            let ready = arrivals(draft, rows, i, j as u64).max().unwrap_or(0);
+            ready.max(free_from[j]) + u64::from(draft.tasks[i].1[j])
+        };
+        let of = |j: usize| cost(draft, i, j);
+        let best = (0..m).min_by_key(|&j| (finish(j), of(j))).unwrap();
+        let cheapest = (0..m).min_by_key(|&j| of(j)).unwrap();
+        let taken = rows[i].processor as usize;
+        rcb -= of(cheapest);
+        let may_be_taken = |j: usize| of(j) <= of(best) && of(j) + rcb <= rb;
+        assert!(may_be_taken(cheapest), "task {i} of {draft:?}");
+        assert!(may_be_taken(taken), "task {i} of {draft:?}");
+        kept_from_best += usize::from(!may_be_taken(best));
+        free_from[taken] = rows[i].finish;
+        rb -= of(taken);
+    }
+    kept_from_best
+}
+
 /// Times by a, prices by b, budget by both: the same processors, starts and
 /// finishes by a, costs by a x b; refusal 8 the same, 9 by a x b, 11 by a.
 #[test]
@@ -123,7 +195,12 @@ fn multiplied_requests() {
                 Answer::Planned { n, length: length * a, cost: cost * a * b, left: left * a * b }
             }
             Answer::Refused { number, place } => {
-                let factor = [1, a * b, 1, a][number as usize - 8];
+                let factor = match number {
+                    8 => 1,
+                    9 => a * b,
+                    11 => a,
+                    _ => panic!("refusal {number} at {place}"),
+                };
                 Answer::Refused { number, place: place * factor }
             }
         };
@@ -174,7 +251,8 @@ fn damaged_requests() {
         }
         met.note(answer);
     }
-    met.at_least(20, &[0, 1, 2, 3, 4, 5, 6, 7, 8, 9, 11]);
+    met.at_least(20, &[0]);
+    met.at_least(20, &REFUSALS);
 }
 
 #[test]

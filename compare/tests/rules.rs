@@ -46,7 +46,7 @@ fn slip_rounding_the_mean() {
 #[test]
 fn slip_counting_the_task_in_hand_inside_rcb() {
     // RB - RCB for prep is 24 - 14, just its lowest cost; with prep inside RCB
-    // it would be 0 and the answer refusal 10.
+    // it would be 0 and leave no processor for prep.
     let rows = vec![(0, 0, 10, 10), (0, 10, 18, 8), (1, 13, 15, 6)];
     assert_eq!(planned(&sample(24)), ((18, 24, 0), rows));
 }

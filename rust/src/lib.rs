@@ -42,7 +42,7 @@ pub struct Plan {
     pub rows: Vec<Row>,
 }
 
-/// Why there is no plan: a number, 1 to 11, and its place. `docs/HELP.md` has the table.
+/// Why there is no plan: a number, 1 to 9 or 11, and its place. `docs/HELP.md` has the table.
 #[derive(Clone, Copy, Debug, PartialEq, Eq)]
 pub struct Refusal {
     pub number: u64,

@@ -4,15 +4,16 @@ use against::{columns_before, Columns, Driver};
 use compare::build::sample;
 use compare::random::{Damage, Random};
 use compare::shapes::{shaped, BUDGETS, DEADLINES, GRAPHS, NUMBERS};
-use compare::Row;
+use compare::{Row, REFUSALS};
+use std::collections::BTreeMap;
 
-/// Document 01's numbers, and 0 for a plan.
-const NUMBERS_THERE_ARE: usize = 12;
+/// How often each answer was met: by the numbers of refusals, and plans as 0.
+type Met = BTreeMap<u64, usize>;
 
-/// Holds the proved planner against the independent program on each request, with buffers of these lengths. Gives how
-/// often each refusal was met, and plans as 0.
-fn agree(requests: impl IntoIterator<Item = (Vec<u8>, [usize; 4])>) -> [usize; NUMBERS_THERE_ARE] {
-    let (mut driver, mut met) = (Driver::start(), [0; NUMBERS_THERE_ARE]);
+/// Holds the proved planner against the independent program on each request, with buffers of these lengths, and its
+/// numbers against the table.
+fn agree(requests: impl IntoIterator<Item = (Vec<u8>, [usize; 4])>) -> Met {
+    let (mut driver, mut met) = (Driver::start(), Met::new());
     let mut requests = requests.into_iter().peekable();
     while requests.peek().is_some() {
         let batch: Vec<_> = requests.by_ref().take(64).collect();
@@ -21,10 +22,18 @@ fn agree(requests: impl IntoIterator<Item = (Vec<u8>, [usize; 4])>) -> [usize; N
             let (theirs, their_columns) = plan(request, *lent);
             assert_eq!(answer, theirs, "lent {lent:?}, request {request:?}");
             assert_eq!(columns, their_columns, "lent {lent:?}, request {request:?}");
-            met[answer.number as usize] += 1;
+            *met.entry(answer.number).or_default() += 1;
         }
     }
+    println!("{met:?}");
+    assert!(met.keys().all(|number| *number == 0 || REFUSALS.contains(number)), "{met:?}");
     met
+}
+
+/// Each of these answers was met so often, and no other.
+fn each_often(met: &Met, numbers: &[u64], count: usize) {
+    assert!(met.keys().eq(numbers), "{met:?}");
+    assert!(met.values().all(|&met| met >= count), "{met:?}");
 }
 
 /// The independent program's answer, with its rows field by field in buffers of these lengths. As many rows are lent as
@@ -87,14 +96,7 @@ fn good_requests_of_every_shape() {
         let lent = lent(&mut random, n);
         (request, lent)
     }));
-    println!("{met:?}");
-    // Each of these answers comes often; refusals 1 to 6 and 10 never.
-    for (number, met) in met.iter().enumerate() {
-        match number {
-            0 | 7 | 8 | 9 | 11 => assert!(*met >= 1_000, "{number} was met {met} times"),
-            _ => assert_eq!(*met, 0, "{number}"),
-        }
-    }
+    each_often(&met, &[0, 7, 8, 9, 11], 1_000);
 }
 
 #[test]
@@ -106,13 +108,7 @@ fn damaged_requests() {
             let lent = lent(&mut random, n);
             (request, lent)
         }));
-    println!("{met:?}");
-    for (number, met) in met.iter().enumerate() {
-        match number {
-            10 => assert_eq!(*met, 0),
-            _ => assert!(*met >= 30, "{number} was met {met} times"),
-        }
-    }
+    each_often(&met, &[0, 1, 2, 3, 4, 5, 6, 7, 8, 9, 11], 30);
 }
 
 #[test]
@@ -127,7 +123,7 @@ fn every_number_of_rows() {
             (request.clone(), lent)
         })
     }));
-    assert!(met[0] > 0 && met[7] > 0);
+    assert!(met.contains_key(&0) && met.contains_key(&7), "{met:?}");
 }
 
 /// The driver runs on a thread with 32 KiB of stack, and the largest requests leave some of it.
