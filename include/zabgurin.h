@@ -37,9 +37,7 @@ enum { ZABGURIN_MOST_TEXT = 2145 };
     7   fewer rows lent than there are tasks                       the number of tasks
     8   tasks wait for each other in a circle                      the lowest task that waits for itself
     9   the budget is too small                                    the cheapest total
-    11  the plan ends after the deadline                           its length
-
-   The number 10 is not used. */
+    11  the plan ends after the deadline                           its length */
 struct zabgurin_answer {
     uint64_t number;
     uint64_t place;

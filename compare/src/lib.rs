@@ -1,5 +1,5 @@
-//! An independent program for document 01, written from that document alone
-//! and used to compare answers with. It keeps everything in plain tables:
+//! An independent program for the rules, written from documents 01 and 02
+//! alone and used to compare answers with. It keeps everything in plain tables:
 //! [`read`] decodes a request, [`schedule`] plans it, [`text`] prints it.
 
 pub mod build;
@@ -30,7 +30,7 @@ pub enum Answer {
     Refused { number: u64, place: u64 },
 }
 
-/// The numbers of the table of refusals. 10 is not one of them.
+/// The numbers of the table of refusals.
 pub const REFUSALS: [u64; 10] = [1, 2, 3, 4, 5, 6, 7, 8, 9, 11];
 
 impl From<Refusal> for Answer {

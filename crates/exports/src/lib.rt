@@ -114,7 +114,7 @@ pub extern "C" fn zabgurin_label(request: &[u8], task: usize) -> ZabgurinPart
     }
 }
 
-// How a request is answered. `number` is that of the refusal, 1 to 11, with its place; or 0 for a plan, with its number of tasks, its length, its cost and
+// How a request is answered. `number` is that of the refusal, 1 to 9 or 11, with its place; or 0 for a plan, with its number of tasks, its length, its cost and
 // the budget left.
 #[repr(C)]
 pub struct ZabgurinAnswer {
