@@ -1,4 +1,4 @@
--- The leader of the processors passed, one processor after the other, and the choice that the last leader stands for.
+-- The leader of the processors passed, one processor after the other; the last is the choice.
 use Prim.Native.Nat.{ℕ, suc, _+_, _≤_, _<_}
 use mathlib.Core.Path.{_≡_, refl, sym, _∙_}
 use mathlib.Core.Bool.{Bool, true, false, cond, _||_}
@@ -13,9 +13,9 @@ use Rattle.rules.specs.Method.{Question, may-be-taken, score, preferred, HBCS}
 use Rattle.laws.specs.Tests.{cond-either}
 use Rattle.laws.specs.Numbers.{below-next}
 use Rattle.laws.specs.Orders.{lower-tie}
-use Rattle.laws.specs.First.{first-at-most, first-below, first-next}
+use Rattle.laws.specs.First.{first-at-most, first-next}
 use Rattle.choosing.specs.Figured.{standing}
-use Rattle.choosing.specs.Leading.{ahead-by, led-by, taken-by, Leads, nobody, somebody}
+use Rattle.choosing.specs.Leading.{ahead-by, led-by, Stands, nobody, somebody, Leads}
 use Rattle.choosing.specs.declared.Leader.{Leader}
 
 -- A higher standing is ahead, and an even one with an earlier finish.
@@ -48,8 +48,9 @@ module _ (l : Leader) (s f : ℕ) where
   led-by-parts false j h = sym (stays j (sym h))
 
 module _ (q : Question) where
-  pub leads-first : (l : Leader) → l .standing ≡ 0 → l .finish ≡ 0 → Leads q 0 l
-  leads-first l s f = nobody s f (λ i h. absurd (omega arith))
+  pub leads-first : (l : Leader) → l .processor ≡ 0 → l .standing ≡ 0 → l .finish ≡ 0 → Leads q 0 l
+  unfolding first
+  leads-first l p s f = record { is-first = p; stands = nobody s f (λ i h. absurd (omega arith)) }
 
   module _ (k : ℕ) where
     standing-none : may-be-taken q k ≡ false → standing q k ≡ 0
@@ -89,42 +90,41 @@ module _ (q : Question) where
             eqb·suc-suc (score q k) (score q (l .processor)),
           )
 
-      -- Each may be taken or not.
-      led-on : Leads q k l → (t : Bool) → may-be-taken q k ≡ t → Leads q (k + 1) (led-by l k (standing q k) (q .finish k))
-      led-on (nobody s f none) false at-k =
-          let even = sym (ahead-even l 0 (q .finish k) (sym s)) ∙ le-ltb (q .finish k) (l .finish) (omega arith) in
-          rw (standing-none at-k, stays l 0 (q .finish k) k even)
-          (nobody s f (λ i h. below-next (λ n. may-be-taken q n ≡ false) k at-k none i (omega arith)))
-      led-on (nobody s f none) true at-k =
-          let higher-standing =
-          sym (ahead-uneven l (score q k + 1) (q .finish k) (λ e. omega arith)) ∙ lt-ltb (l .standing) (score q k + 1) (omega arith) in
-          rw (standing-some at-k, leads l (score q k + 1) (q .finish k) k higher-standing)
-          (somebody (first-only at-k none) at-k refl refl)
-      led-on (somebody p may s f) false at-k =
-          let lower-standing = sym (ahead-uneven l 0 (q .finish k) (λ e. omega arith)) ∙ le-ltb (l .standing) 0 (omega arith) in
-          rw (standing-none at-k, stays l 0 (q .finish k) k lower-standing)
-          (somebody (first-next k (preferred q) p (unfold preferred among in rw at-k)) may s f)
-      led-on (somebody p may s f) true at-k = rw (standing-some at-k) (both (preferred q k (l .processor)) refl)
-        where
-          both : (t : Bool) → preferred q k (l .processor) ≡ t → Leads q (k + 1) (led-by l k (score q k + 1) (q .finish k))
-          both true e =
-              rw (leads l (score q k + 1) (q .finish k) k (ahead-is-preferred at-k may s f ∙ e))
-              (somebody (first-next k (preferred q) p (rw e)) at-k refl refl)
-          both false e =
-              rw (stays l (score q k + 1) (q .finish k) k (ahead-is-preferred at-k may s f ∙ e))
-              (somebody (first-next k (preferred q) p (rw e)) may s f)
+      -- One that may not be taken is not ahead of the leader.
+      not-ahead : Stands q k l → ahead-by l 0 (q .finish k) ≡ false
+      not-ahead (nobody s f none) = sym (ahead-even l 0 (q .finish k) (sym s)) ∙ le-ltb (q .finish k) (l .finish) (omega arith)
+      not-ahead (somebody may s f) = sym (ahead-uneven l 0 (q .finish k) (λ e. omega arith)) ∙ le-ltb (l .standing) 0 (omega arith)
+
+      stands-on : may-be-taken q k ≡ false → Stands q k l → Stands q (k + 1) l
+      stands-on at-k (nobody s f none) = nobody s f (λ i h. below-next (λ n. may-be-taken q n ≡ false) k at-k none i (omega arith))
+      stands-on at-k (somebody may s f) = somebody may s f
+
+      module _ (p : l .processor ≡ first k (preferred q)) where
+        -- Each may be taken or not.
+        led-on : Stands q k l → (t : Bool) → may-be-taken q k ≡ t → Leads q (k + 1) (led-by l k (standing q k) (q .finish k))
+        led-on stands false at-k =
+            rw (standing-none at-k, stays l 0 (q .finish k) k (not-ahead stands))
+            (record { is-first = first-next k (preferred q) p (unfold preferred among in rw at-k); stands = stands-on at-k stands })
+        led-on (nobody s f none) true at-k =
+            let higher-standing =
+            sym (ahead-uneven l (score q k + 1) (q .finish k) (λ e. omega arith)) ∙ lt-ltb (l .standing) (score q k + 1) (omega arith) in
+            rw (standing-some at-k, leads l (score q k + 1) (q .finish k) k higher-standing)
+            (record { is-first = first-only at-k none; stands = somebody at-k refl refl })
+        led-on (somebody may s f) true at-k = rw (standing-some at-k) (both (preferred q k (l .processor)) refl)
+          where
+            both : (t : Bool) → preferred q k (l .processor) ≡ t → Leads q (k + 1) (led-by l k (score q k + 1) (q .finish k))
+            both true e =
+                rw (leads l (score q k + 1) (q .finish k) k (ahead-is-preferred at-k may s f ∙ e))
+                (record { is-first = first-next k (preferred q) p (rw e); stands = somebody at-k refl refl })
+            both false e =
+                rw (stays l (score q k + 1) (q .finish k) k (ahead-is-preferred at-k may s f ∙ e))
+                (record { is-first = first-next k (preferred q) p (rw e); stands = somebody may s f })
 
       -- One turn of the pass.
       pub leads-next : Leads q k l → {s : ℕ} {r : Leader} → s ≡ standing q k → r ≡ led-by l k s (q .finish k) → Leads q (k + 1) r
-      leads-next lead at-k e = rw (e, at-k) (led-on lead (may-be-taken q k) refl)
+      leads-next lead at-k e = rw (e, at-k) (led-on (lead .is-first) (lead .stands) (may-be-taken q k) refl)
 
   -- The last leader is the choice.
-  pub leads-all : 1 ≤ q .processors → (l : Leader) → Leads q (q .processors) l → taken-by l ≡ HBCS q
-  unfolding taken-by HBCS
-  leads-all some l (nobody s f none) =
-      rw (
-        eq-eqb (l .standing) 0 s,
-        none (first (q .processors) (preferred q)) (first-below (q .processors) (preferred q) some),
-      )
-  leads-all some l (somebody p may s f) =
-      rw (ne-eqb (l .standing) 0 (λ e. omega arith), ← p, may)
+  pub leads-all : (l : Leader) → Leads q (q .processors) l → l .processor ≡ HBCS q
+  unfolding HBCS
+  leads-all l lead = lead .is-first

@@ -1,29 +1,11 @@
--- Two answers with one meaning are one answer: the contracts settle the choice, the figures and the weights.
+-- The contracts settle the figures and the weights: two that a contract allows are one.
 use Prim.Native.Nat.{ℕ}
-use mathlib.Core.Path.{_≡_, refl, sym, _∙_, ap}
-use Rattle.rules.specs.Method as rules
+use mathlib.Core.Path.{_≡_, sym, _∙_}
 use Rattle.rules.specs.Method.{Question}
 use Rattle.choosing.specs.declared.figures.Figures.{Figures}
 use Rattle.choosing.specs.declared.figures.Weights.{Weights}
-use Rattle.choosing.specs.declared.Choice.{Choice}
-use Rattle.choosing.specs.declared.Choice.the-variants.{Take, Nothing}
-use Rattle.choosing.specs.Asked.{meant-choice}
 use Rattle.choosing.specs.Figured.{FiguresOf, Weighed}
 
--- The answer that means this.
-choice-for : rules.Choice → Choice
-choice-for (rules.take j) = Take j
-choice-for rules.nothing = Nothing
-
-choice-again : (a : Choice) → choice-for (meant-choice a) ≡ a
-unfolding meant-choice choice-for
-choice-again (Take j) = refl
-choice-again Nothing = refl
-
-pub choice-settled : (a b : Choice) → meant-choice a ≡ meant-choice b → a ≡ b
-choice-settled a b same = sym (choice-again a) ∙ ap choice-for same ∙ choice-again b
-
--- Two sets of figures, or of weights, that a contract allows are one.
 pub figures-settled : {q : Question} {k : ℕ} {a b : Figures} → FiguresOf q k a → FiguresOf q k b → a ≡ b
 figures-settled one other =
     λ t. record {

@@ -1,18 +1,12 @@
 // Choosing a processor for the task in hand, from the costs and the finishes on each. Knows no request.
 ghost use mathlib.Core.Path.{_≡_};
 ghost use Rattle.rules.specs.Method.{HBCS};
-ghost use Rattle.choosing.specs.Asked.{asked, InRange, meant-choice};
-ghost use Rattle.choosing.specs.Leading.{ahead-by, led-by, taken-by};
+ghost use Rattle.choosing.specs.Asked.{asked, InRange};
+ghost use Rattle.choosing.specs.Leading.{ahead-by, led-by};
 
 mod figures;
 
-// A processor, or that none may be taken.
-pub enum Choice {
-    Take(usize),
-    Nothing,
-}
-
-// The one to take among the processors passed, with its standing and its finish; all 0 while none may be taken.
+// The one to take among the processors passed, with its standing and its finish; all 0, so processor 0, while none may be taken.
 pub struct Leader {
     pub processor: usize,
     pub standing: u64,
@@ -41,20 +35,10 @@ fn led(leader: Leader, processor: usize, standing: u64, finish: u64) -> Leader
     }
 }
 
-// What is chosen once all processors are passed.
-fn taken(leader: Leader) -> Choice
-    ensures { λ r. ⌜ meant-choice r ≡ taken-by leader ⌝ }
-{
-    if leader.standing == 0 {
-        return Choice::Nothing;
-    }
-    Choice::Take(leader.processor)
-}
-
-// HBCS: the highest score among the processors that may be taken; ties to earlier finish, then lower number. Nothing where none may be taken.
-pub fn choose(m: usize, costs: &[u64; 16], finishes: &[u64; 16], rb: u64, rcb: u64) -> Choice
+// HBCS: the highest score among the processors that may be taken; ties to earlier finish, then lower number. Processor 0 where none may be taken.
+pub fn choose(m: usize, costs: &[u64; 16], finishes: &[u64; 16], rb: u64, rcb: u64) -> usize
     requires { ⌜ InRange (asked m (now costs) (now finishes) rb rcb) ⌝ }
-    ensures { λ r. ⌜ meant-choice r ≡ HBCS (asked m (now (costs .entry)) (now (finishes .entry)) rb rcb) ⌝ }
+    ensures { λ r. ⌜ r ≡ HBCS (asked m (now (costs .entry)) (now (finishes .entry)) rb rcb) ⌝ }
 {
     let g = figures::figures_of(m, costs, finishes, rb, rcb);
     let w = figures::weights_of(g);
@@ -70,5 +54,5 @@ pub fn choose(m: usize, costs: &[u64; 16], finishes: &[u64; 16], rb: u64, rcb: u
         leader = led(leader, j, figures::standing(g, w, cost, finish), finish);
         j += 1;
     }
-    taken(leader)
+    leader.processor
 }

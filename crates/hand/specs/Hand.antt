@@ -4,9 +4,8 @@ use mathlib.Core.List.{List}
 use Rattle.rules.specs.Workflow.{Workflow}
 use Rattle.rules.specs.Ranks.{cost}
 use Rattle.rules.specs.Start.{Interval, start-on}
-use Rattle.rules.specs.Method.{Question, Choice, take, nothing, Method}
-use Rattle.hand.specs.declared.Hand.{Hand}
-use Rattle.hand.specs.declared.Hand.the-variants as hand
+use Rattle.rules.specs.Method.{Question, Method}
+use Rattle.hand.specs.declared.Row.{Row}
 
 module _ (W : Workflow) (ready : ℕ → ℕ) (busy : ℕ → List Interval) (i : ℕ) where
   -- Start and finish of task i on processor j: document 01's, as in `start-of` and `finish-of` of the rules.
@@ -20,11 +19,6 @@ module _ (W : Workflow) (ready : ℕ → ℕ) (busy : ℕ → List Interval) (i 
   unfoldable pub question-by : (RB RCB : ℕ) → Question
   question-by RB RCB = record { processors = W .processors; cost = cost W i; finish = finish-by; RB = RB; RCB = RCB }
 
-  -- What a choice gives.
-  unfoldable pub hand-by : Choice → Hand
-  hand-by (take j) = hand.Row j (start-by j) (finish-by j) (cost W i j)
-  hand-by nothing = hand.Nothing
-
-  -- What task i gets by a method: a row on the processor that it takes, or nothing.
-  abbrev pub hand-of : Method → (RB RCB : ℕ) → Hand
-  hand-of M RB RCB = hand-by (M (question-by RB RCB))
+  -- The row that task i gets by a method, on the processor that it takes.
+  abbrev pub row-by : Method → (RB RCB : ℕ) → Row
+  row-by M RB RCB = let j = M (question-by RB RCB) in record { processor = j; start = start-by j; finish = finish-by j; cost = cost W i j }

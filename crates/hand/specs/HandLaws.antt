@@ -1,6 +1,6 @@
 -- The row of the task in hand, from arrays of its costs and finishes and the choice from them.
 use Prim.Native.Nat.{ℕ, _+_, _-_, _≤_, _<_}
-use mathlib.Core.Path.{_≡_, refl, sym, ap, _∙_}
+use mathlib.Core.Path.{_≡_, refl, ap}
 use mathlib.Core.List.{List, List·Memᴰ, List·Memᴰ·eq-of-singleton}
 use native.Mathlib.Omega.{arith}
 use Rattle.rules.specs.Workflow.{Workflow}
@@ -12,21 +12,18 @@ use Rattle.laws.specs.Bounds.{ready-most, asked-finish-most, total-most, budget
 use Rattle.laws.specs.StartLaws.{start-at-most}
 use Rattle.laws.specs.Method.{HBCS-same, HBCS-takes-processor}
 use Rattle.costs.specs.CostLaws.{cost-at-most}
-use Rattle.choosing.specs.declared.Choice.{Choice}
-use Rattle.choosing.specs.declared.Choice.the-variants.{Take, Nothing}
-use Rattle.choosing.specs.Asked.{asked, InRange, meant-choice}
+use Rattle.choosing.specs.Asked.{asked, InRange}
 use Rattle.laws.specs.Stores.{at}
 use Rattle.laws.specs.Filled.{AtMost, Filled}
 use Rattle.hand.specs.Busy.{kept-busy}
-use Rattle.hand.specs.Hand.{start-by, finish-by, question-by, hand-by, hand-of}
-use Rattle.hand.specs.declared.Hand.{Hand}
-use Rattle.hand.specs.declared.Hand.the-variants as hand
+use Rattle.hand.specs.Hand.{start-by, finish-by, question-by, row-by}
+use Rattle.hand.specs.declared.Row.{Row}
 
 -- Processor j has a row for task i, which is read off the arrays of its costs and finishes.
-pub record RowOn (W : Workflow) (i j : ℕ) (costs finishes : List ℕ) (row : Hand) : Type 0 where
+pub record RowOn (W : Workflow) (i j : ℕ) (costs finishes : List ℕ) (row : Row) : Type 0 where
   pub processor : j < W .processors
   pub minutes-in-finish : W .minutes i j ≤ at finishes j
-  pub row-is : hand.Row j (at finishes j - W .minutes i j) (at finishes j) (at costs j) ≡ row
+  pub row-is : record { processor = j; start = at finishes j - W .minutes i j; finish = at finishes j; cost = at costs j } ≡ row
 
 -- What is kept of a processor ends by b, where the array is at most b.
 kept-ends : {b : ℕ} (until : List ℕ) (j : ℕ) → AtMost b until → (v : Interval) → List·Memᴰ v (kept-busy until j) → v .end ≤ b
@@ -76,27 +73,15 @@ module _ (W : Workflow) (range : good.InRange W) (i : ℕ) where
         HBCS-same question _ (range .processors-in .from-low)
         (record { processors = refl; cost = all-costs .below; finish = all-finishes .below; RB = refl; RCB = refl })
 
-    -- What the choice from the arrays gives.
-    abbrev row : Hand
-    row = hand-of W ready busy i HBCS rb rcb
-
-    module _ {choice : Choice} (chosen : meant-choice choice ≡ HBCS question) where
-      row-given : (answer : Choice) → choice ≡ answer → hand-by W ready busy i (meant-choice answer) ≡ row
-      row-given answer is = ap (λ x. hand-by W ready busy i (meant-choice x)) (sym is) ∙ ap (hand-by W ready busy i) (chosen ∙ asked-same)
-
-      pub no-row : choice ≡ Nothing → hand.Nothing ≡ row
-      unfolding hand-by meant-choice
-      no-row = row-given Nothing
-
-      pub row-on : {j : ℕ} → choice ≡ Take j → RowOn W i j costs finishes row
-      unfolding hand-by finish-by meant-choice
-      row-on {j} taken =
-          let below : j < W .processors =
-          HBCS-takes-processor question j (range .processors-in .from-low) (sym chosen ∙ ap meant-choice taken) in
-          let finish = all-finishes .below j below in
-          let start : at finishes j - W .minutes i j ≡ start-by W ready busy i j = omega (arith, finish) in
-          record {
-            processor = below;
-            minutes-in-finish = omega (arith, finish);
-            row-is = rw (start, finish, all-costs .below j below) (row-given (Take j) taken);
-          }
+    -- The processor that is chosen from the arrays has the method's row.
+    pub row-on : {j : ℕ} → j ≡ HBCS question → RowOn W i j costs finishes (row-by W ready busy i HBCS rb rcb)
+    unfolding finish-by
+    row-on {j} chosen =
+        let below : j < W .processors = rw chosen (HBCS-takes-processor question (range .processors-in .from-low)) in
+        let finish = all-finishes .below j below in
+        let start : at finishes j - W .minutes i j ≡ start-by W ready busy i j = omega (arith, finish) in
+        record {
+          processor = below;
+          minutes-in-finish = omega (arith, finish);
+          row-is = rw (← asked-same, ← chosen, start, finish, all-costs .below j below);
+        }

@@ -10,8 +10,7 @@ ghost use Rattle.laws.specs.Bounds.{ready-most, total-most, budget-most};
 ghost use Rattle.laws.specs.Stores.{at};
 ghost use Rattle.laws.specs.Filled.{AtMost, Filled};
 ghost use Rattle.hand.specs.Busy.{kept-busy};
-ghost use Rattle.hand.specs.Hand.{finish-by, hand-of};
-use choosing::Choice;
+ghost use Rattle.hand.specs.Hand.{finish-by, row-by};
 use reader::View;
 
 // What is kept of what each processor is busy with: the latest finish on it.
@@ -19,15 +18,12 @@ pub struct Processors {
     pub until: [u64; 16],
 }
 
-// A row for the task in hand, or that it has no processor it may take.
-pub enum Hand {
-    Row {
-        processor: usize,
-        start: u64,
-        finish: u64,
-        cost: u64,
-    },
-    Nothing,
+// The row of the task in hand.
+pub struct Row {
+    pub processor: usize,
+    pub start: u64,
+    pub finish: u64,
+    pub cost: u64,
 }
 
 // The start on processor j of a task whose data is ready there at `ready` and that takes `minutes` there.
@@ -65,20 +61,17 @@ pub fn row_for(
     task: usize,
     rb: u64,
     rcb: u64,
-) -> Hand
+) -> Row
     requires { ⌜ ViewOf (now s) v ⌝ }
     requires { ⌜ (task < v .tasks) × AtMost ready-most (now ready) × AtMost ready-most (now until) ⌝ }
     requires { ⌜ Filled (v .processors) (cost (workflow-of (now s) v) task) (now costs) × (rb ≤ budget-most) × (rcb ≤ total-most) ⌝ }
-    ensures { λ r. ⌜ r ≡ hand-of (workflow-of (now (s .entry)) v) (at (now (ready .entry))) (kept-busy (now (until .entry))) task HBCS rb rcb ⌝ }
+    ensures { λ r. ⌜ r ≡ row-by (workflow-of (now (s .entry)) v) (at (now (ready .entry))) (kept-busy (now (until .entry))) task HBCS rb rcb ⌝ }
 {
     let finishes = finish_on_all(s, v, ready, until, task);
-    let choice = choosing::choose(v.processors, costs, &finishes, rb, rcb);
-    let Choice::Take(j) = choice else {
-        return Hand::Nothing;
-    };
+    let j = choosing::choose(v.processors, costs, &finishes, rb, rcb);
     let finish = finishes[j];
     let cost = costs[j];
-    Hand::Row {
+    Row {
         processor: j,
         start: finish - lookup::minutes(s, v, task, j),
         finish,

@@ -1,4 +1,4 @@
--- What the code keeps once k tasks are placed: the rules' rows so far, in arrays, and what these come to.
+-- What the code keeps once k tasks are placed: the rows so far, in arrays, and what these come to.
 use Prim.Native.Nat.{ℕ, _+_, _*_, _-_, _≤_}
 use mathlib.Core.Path.{_≡_}
 use mathlib.Core.Bool.{Bool, false}
@@ -8,8 +8,6 @@ use Rattle.rules.specs.Workflow.{Workflow}
 use Rattle.rules.specs.Ranks.{lowest-cost}
 use Rattle.rules.specs.Rows as rules
 use Rattle.rules.specs.Rows.{Placed, is-placed, busy}
-use Rattle.rules.specs.Method.{Method}
-use Rattle.rules.specs.Placing.{so-far, place}
 use Rattle.laws.specs.Bounds.{added-most, cost-most}
 use Rattle.laws.specs.StartLaws.{SameStart}
 use Rattle.laws.specs.Unmarked.{sum-unmarked, count-unmarked}
@@ -27,10 +25,8 @@ pub record Until (rows : List Placed) (until : List ℕ) : Type 0 where
   pub size : length until ≡ 16
   pub holds : (j : ℕ) → SameStart (kept-busy until j) (busy rows j)
 
--- The rows so far by any method, and what the code keeps of them.
-pub record Kept (M : Method) (W : Workflow) (k : ℕ) (state : State) : Type 0 where
-  pub rows : List Placed
-  pub placed-so-far : place M W k ≡ so-far rows
+-- The rows of k tasks, and what the code keeps of them.
+pub record Kept (W : Workflow) (rows : List Placed) (k : ℕ) (state : State) : Type 0 where
   pub columns : Columns rows (state .sits) (state .starts) (state .ends) (state .costs)
   pub marks : Marks rows (state .placed)
   pub busy-until : Until rows (state .until)

@@ -7,9 +7,8 @@ use native.Mathlib.Omega.{arith}
 use Rattle.rules.specs.Orders.{first}
 use Rattle.rules.specs.Workflow.{Workflow}
 use Rattle.rules.specs.Ranks.{R, lowest-cost, cheapest-total, next-task}
-use Rattle.rules.specs.Rows.{is-placed, spent, length-of}
-use Rattle.rules.specs.Method.{Method}
-use Rattle.rules.specs.Placing.{RCB, place}
+use Rattle.rules.specs.Rows.{Placed, is-placed, spent, length-of}
+use Rattle.rules.specs.Placing.{RCB}
 use Rattle.good.specs.Ranges.{InRange}
 use Rattle.laws.specs.Bounds.{finish-most, ready-most, cost-most, total-most, budget-most}
 use Rattle.laws.specs.StartLaws.{start-up-to}
@@ -31,12 +30,10 @@ use Rattle.placing.specs.Kept.{Kept}
 use Rattle.placing.specs.Arrays.{columns-first, marks-first, until-first}
 
 -- At first no task is placed.
-pub kept-first : (M : Method) (W : Workflow) {rb rcb : ℕ} → rb ≡ W .budget → rcb ≡ cheapest-total W → Kept M W 0 (without-rows rb rcb)
-unfolding place is-placed spent length-of cheapest-total
-kept-first M W budget cheapest =
+pub kept-first : (W : Workflow) {rb rcb : ℕ} → rb ≡ W .budget → rcb ≡ cheapest-total W → Kept W [] 0 (without-rows rb rcb)
+unfolding is-placed spent length-of cheapest-total
+kept-first W budget cheapest =
     record {
-      rows = [];
-      placed-so-far = refl;
       columns = columns-first;
       marks = marks-first;
       busy-until = until-first;
@@ -49,13 +46,13 @@ kept-first M W budget cheapest =
       spent-most = omega arith;
     }
 
-module _ {M : Method} {W : Workflow} (range : InRange W) {k : ℕ} {state : State} (kept : Kept M W k state) (more : k < W .tasks) where
+module _ {W : Workflow} (range : InRange W) {rows : List Placed} {k : ℕ} {state : State} (kept : Kept W rows k state) (more : k < W .tasks) where
   -- What is asked of the numbers in a turn.
-  length-within : length-of (kept .rows) ≤ finish-most
+  length-within : length-of rows ≤ finish-most
   length-within = omega (arith, kept .length-most, range .tasks-in)
 
   pub ends-within : AtMost finish-most (state .ends)
-  ends-within i = omega (arith, kept .columns .finishes-hold .holds i, finish-in-length (kept .rows) i, length-within)
+  ends-within i = omega (arith, kept .columns .finishes-hold .holds i, finish-in-length rows i, length-within)
 
   pub until-within : AtMost ready-most (state .until)
   unfolding kept-busy
@@ -64,7 +61,7 @@ module _ {M : Method} {W : Workflow} (range : InRange W) {k : ℕ} {state : Stat
         arith,
         start-up-to (at (state .until) j) 0 0,
         kept .busy-until .holds j 0 0,
-        start-in-length (kept .rows) j 0 0 finish-most (omega arith) length-within,
+        start-in-length rows j 0 0 finish-most (omega arith) length-within,
       )
 
   pub rb-within : state .rb ≤ budget-most
@@ -74,12 +71,12 @@ module _ {M : Method} {W : Workflow} (range : InRange W) {k : ℕ} {state : Stat
   rcb-within =
       let each =
       sum-at-most-each (W .tasks) _ cost-most (λ i l.
-      cond-either (λ x. x ≤ cost-most) (is-placed (kept .rows) i) 0 (lowest-cost W i) (λ _. omega arith) (λ _. lowest-cost-at-most W range i)) in
+      cond-either (λ x. x ≤ cost-most) (is-placed rows i) 0 (lowest-cost W i) (λ _. omega arith) (λ _. lowest-cost-at-most W range i)) in
       omega (arith, kept .rcb-is, each, range .tasks-in)
 
   -- The next task by ranks and marks in arrays is the rules'.
   pub next-kept : {ranks : List ℕ} {i : ℕ} → RanksOf W ranks → i ≡ first (W .tasks) (placing-order ranks (state .placed))
-      → i ≡ next-task W (is-placed (kept .rows))
+      → i ≡ next-task W (is-placed rows)
   unfolding next-task
   next-kept ranks-of e =
       e
@@ -87,13 +84,13 @@ module _ {M : Method} {W : Workflow} (range : InRange W) {k : ℕ} {state : Stat
       among-same _ _ _ _ x y (ap not (kept .marks .holds x)) (ap not (kept .marks .holds y))
       (higher-same _ (R W) _ _ x y (ranks-of .are x l) (ranks-of .are y m) refl))
 
-  module _ {i : ℕ} (next : i ≡ next-task W (is-placed (kept .rows))) where
-    pub next-free : (i < W .tasks) × (is-placed (kept .rows) i ≡ false)
-    next-free = rw next (next-task-free W (is-placed (kept .rows)) (omega (arith, kept .count)))
+  module _ {i : ℕ} (next : i ≡ next-task W (is-placed rows)) where
+    pub next-free : (i < W .tasks) × (is-placed rows i ≡ false)
+    next-free = rw next (next-task-free W (is-placed rows) (omega (arith, kept .count)))
 
     -- RCB: its lowest cost less.
-    pub rcb-less : {low : ℕ} → low ≡ lowest-cost W i → (low ≤ state .rcb) × (state .rcb - low ≡ RCB W (kept .rows) i)
+    pub rcb-less : {low : ℕ} → low ≡ lowest-cost W i → (low ≤ state .rcb) × (state .rcb - low ≡ RCB W rows i)
     unfolding RCB
     rcb-less e =
-        let less = sum-unmarked-less (is-placed (kept .rows)) (lowest-cost W) (W .tasks) i (next-free .0) (next-free .1) in
+        let less = sum-unmarked-less (is-placed rows) (lowest-cost W) (W .tasks) i (next-free .0) (next-free .1) in
         (omega (arith, kept .rcb-is), omega (arith, kept .rcb-is))

@@ -5,5 +5,4 @@ pub mod Arrays
 pub mod KeptHand
 pub mod KeptLaws
 pub mod KeptMore
-pub mod PlacedAll
 pub mod Settled

@@ -1,18 +1,16 @@
 -- What the code's placing says, in the rules' words.
 use Prim.Native.Nat.{ℕ, _-_, _<_}
 use mathlib.Core.Path.{_≡_}
-use mathlib.Core.List.{List, []}
+use mathlib.Core.List.{List}
 use lib.ListN.{length}
 use Rattle.rules.specs.Workflow.{Workflow}
 use Rattle.rules.specs.Ranks.{R}
 use Rattle.rules.specs.Rows.{Row, Placed, row-of, spent, length-of}
 use Rattle.rules.specs.Method.{HBCS}
-use Rattle.rules.specs.Placing as rules
+use Rattle.rules.specs.Placing.{place}
 use Rattle.laws.specs.Bounds.{rank-most}
 use Rattle.laws.specs.Stores.{at}
 use Rattle.laws.specs.Filled.{AtMost}
-use Rattle.placing.specs.declared.Outcome.{Outcome}
-use Rattle.placing.specs.declared.Outcome.the-variants as outcome
 use Rattle.placing.specs.declared.Placing.{Placing}
 
 -- The array holds the ranks of all tasks.
@@ -32,17 +30,13 @@ pub record Columns (rows : List Placed) (processors starts finishes costs : List
   pub finishes-hold : Column (λ r. r .finish) rows finishes
   pub costs-hold : Column (λ r. r .cost) rows costs
 
--- How a placing is told: length, cost and budget left, or the task that has no processor it may take.
-unfoldable pub told : Workflow → rules.Placing → Outcome
-told W (rules.so-far rows) = outcome.All (length-of rows) (spent rows) (W .budget - spent rows)
-told W (rules.stuck i) = outcome.Stuck i
+-- The rows of all tasks, by the rules.
+abbrev pub all-rows : Workflow → List Placed
+all-rows W = place HBCS W (W .tasks)
 
--- The rows of a placing: none where it is stuck.
-unfoldable pub rows-placed : rules.Placing → List Placed
-rows-placed (rules.so-far rows) = rows
-rows-placed (rules.stuck i) = []
-
--- The answer is the rules' placing of all tasks.
+-- The answer tells these rows, their length, what they cost, and the budget left.
 pub record PlacedAs (W : Workflow) (r : Placing) : Type 0 where
-  pub outcome-is : r .outcome ≡ told W (rules.place HBCS W (W .tasks))
-  pub columns : Columns (rows-placed (rules.place HBCS W (W .tasks))) (r .processors) (r .starts) (r .finishes) (r .costs)
+  pub length-is : r .length ≡ length-of (all-rows W)
+  pub cost-is : r .cost ≡ spent (all-rows W)
+  pub left-is : r .left ≡ W .budget - spent (all-rows W)
+  pub columns : Columns (all-rows W) (r .processors) (r .starts) (r .finishes) (r .costs)

@@ -1,4 +1,4 @@
--- Two placings that the contract of `place` allows are one: the rules settle the outcome, and the rows settle the four arrays.
+-- Two placings that the contract of `place` allows are one: the rules settle the rows, and these the three numbers and the four arrays.
 use Prim.Native.Nat.{ℕ}
 use mathlib.Core.Path.{_≡_, sym, _∙_}
 use mathlib.Core.List.{List}
@@ -14,9 +14,19 @@ column-settled {xs = xs} {ys = ys} a b =
 
 pub placing-settled : (W : Workflow) (a b : Placing) → PlacedAs W a → PlacedAs W b → a ≡ b
 placing-settled W a b one other =
-    let outcomes = one .outcome-is ∙ sym (other .outcome-is) in
+    let lengths = one .length-is ∙ sym (other .length-is) in
+    let spent = one .cost-is ∙ sym (other .cost-is) in
+    let left = one .left-is ∙ sym (other .left-is) in
     let processors = column-settled (one .columns .processors-hold) (other .columns .processors-hold) in
     let starts = column-settled (one .columns .starts-hold) (other .columns .starts-hold) in
     let finishes = column-settled (one .columns .finishes-hold) (other .columns .finishes-hold) in
     let costs = column-settled (one .columns .costs-hold) (other .columns .costs-hold) in
-    λ t. record { outcome = outcomes t; processors = processors t; starts = starts t; finishes = finishes t; costs = costs t }
+    λ t. record {
+      length = lengths t;
+      cost = spent t;
+      left = left t;
+      processors = processors t;
+      starts = starts t;
+      finishes = finishes t;
+      costs = costs t;
+    }

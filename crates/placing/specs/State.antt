@@ -4,6 +4,7 @@ use mathlib.Core.Bool.{Bool, true, false}
 use mathlib.Core.List.{List}
 use lib.ListN.{set, replicate}
 use Rattle.rules.specs.Rows.{Row}
+use Rattle.hand.specs.declared.Row as code
 
 pub record State : Type 0 where
   pub sits : List ℕ
@@ -32,6 +33,10 @@ without-rows rb rcb =
       rcb = rcb;
       length = 0;
     }
+
+-- What the code's row means.
+abbrev pub meant-row : code.Row → Row
+meant-row r = record { processor = r .processor; start = r .start; finish = r .finish; cost = r .cost }
 
 -- Task i has a row more, and `rcb` is still to come.
 abbrev pub with-row : State → ℕ → Row → (rcb : ℕ) → State

@@ -2,16 +2,15 @@
 use Prim.Native.Nat.{ℕ, _≤_, _<_}
 use mathlib.Core.Path.{_≡_}
 use mathlib.Core.Bool.{true, false}
+use mathlib.Core.List.{List}
 use borrow.Author.Tests.{lt-ltb, le-ltb}
 use Rattle.rules.specs.Workflow.{Workflow}
 use Rattle.rules.specs.Cycle.{cyclic, lowest-in-cycle}
 use Rattle.rules.specs.Ranks.{cheapest-total}
-use Rattle.rules.specs.Rows.{length-of}
+use Rattle.rules.specs.Rows.{Placed, length-of}
 use Rattle.rules.specs.Method.{HBCS}
-use Rattle.rules.specs.Placing.{Placing, so-far, stuck, place}
+use Rattle.rules.specs.Placing.{place}
 use Rattle.rules.specs.Answer.{refusal, refuse, too-late, placed-outcome, outcome-by}
-use Rattle.placing.specs.declared.Outcome.the-variants as code
-use Rattle.placing.specs.Placed.{told}
 use Rattle.planner.specs.Planned.{outcome-within}
 
 module _ (W : Workflow) where
@@ -37,14 +36,7 @@ module _ (W : Workflow) where
   unfolding refuse outcome-within
   within-budget within = rw (le-ltb (W .budget) (cheapest-total W) within)
 
-  pub nothing-to-take : (P : Placing) {i : ℕ} → code.Stuck i ≡ told W P → placed-outcome W P ≡ refusal 10 i
-  unfolding told placed-outcome
-  nothing-to-take (so-far rows) e = cc
-  nothing-to-take (stuck i) e = cc
-
   pub after-deadline :
-      (P : Placing) {length cost left : ℕ} → code.All length cost left ≡ told W P → too-late (W .deadline) length ≡ true
-      → placed-outcome W P ≡ refusal 11 length
-  unfolding told placed-outcome refuse
-  after-deadline (so-far rows) {length} e late = let same : length-of rows ≡ length = cc in rw (same, late)
-  after-deadline (stuck i) e late = cc
+      (rows : List Placed) {length : ℕ} → length ≡ length-of rows → too-late (W .deadline) length ≡ true → placed-outcome W rows ≡ refusal 11 length
+  unfolding placed-outcome refuse
+  after-deadline rows is late = rw (← is, late)

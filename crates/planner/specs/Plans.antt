@@ -2,16 +2,14 @@
 use Prim.Native.Nat.{ℕ}
 use mathlib.Core.Path.{_≡_, refl, sym, _∙_}
 use mathlib.Core.Bool.{false}
-use mathlib.Core.List.{List, []}
-use native.Mathlib.Omega.{arith}
+use mathlib.Core.List.{[]}
 use lib.ListN.{replicate}
 use Rattle.rules.specs.Workflow.{Workflow}
-use Rattle.rules.specs.Rows.{Row, no-row, row-of, length-of}
-use Rattle.rules.specs.Placing.{Placing, so-far, stuck}
+use Rattle.rules.specs.Rows.{Row, no-row, row-of}
 use Rattle.rules.specs.Answer.{refusal, refuse, too-late, placed-outcome, answer-of}
 use Rattle.laws.specs.Stores.{repeated}
-use Rattle.placing.specs.declared.Outcome.the-variants as code
-use Rattle.placing.specs.Placed.{Column, Columns, told, rows-placed}
+use Rattle.placing.specs.declared.Placing.{Placing}
+use Rattle.placing.specs.Placed.{Column, all-rows, PlacedAs}
 use Rattle.planner.specs.declared.Answer.the-variants as answer
 use Rattle.planner.specs.Planned.{meant-answer, rows-in, PlanOf}
 
@@ -43,18 +41,16 @@ refused-plan number place =
     }
 
 pub plan-in-time :
-    (W : Workflow) (P : Placing) {length cost left : ℕ} {processors starts finishes costs : List ℕ}
-    → code.All length cost left ≡ told W P → too-late (W .deadline) length ≡ false → Columns (rows-placed P) processors starts finishes costs
-    → PlanOf (placed-outcome W P)
+    {W : Workflow} {p : Placing} → PlacedAs W p → too-late (W .deadline) (p .length) ≡ false
+    → PlanOf (placed-outcome W (all-rows W))
     (record {
-      answer = answer.Planned (W .tasks) length cost left;
-      processors = processors;
-      starts = starts;
-      finishes = finishes;
-      costs = costs;
+      answer = answer.Planned (W .tasks) (p .length) (p .cost) (p .left);
+      processors = p .processors;
+      starts = p .starts;
+      finishes = p .finishes;
+      costs = p .costs;
     })
-unfolding told placed-outcome refuse rows-placed rows-in meant-answer answer-of
-plan-in-time W (so-far rows) {length} {cost} {left} e in-time columns =
-    let same : length-of rows ≡ length = cc in
-    rw (same, in-time) (record { answer-is = cc; columns = columns })
-plan-in-time W (stuck i) e in-time columns = let z : _≡_ {A = ℕ} 0 1 = cc in absurd (omega arith)
+unfolding placed-outcome refuse rows-in meant-answer answer-of
+plan-in-time placed in-time =
+    rw (← placed .length-is, in-time)
+    (record { answer-is = rw (placed .length-is, placed .cost-is, placed .left-is); columns = placed .columns })

@@ -12,9 +12,9 @@ use Rattle.rules.specs.Reading.{Request, read-request}
 use Rattle.rules.specs.Workflow.{Workflow, workflow}
 use Rattle.rules.specs.Cycle.{cyclic, lowest-in-cycle}
 use Rattle.rules.specs.Ranks.{cheapest-total}
-use Rattle.rules.specs.Rows.{length-of}
+use Rattle.rules.specs.Rows.{Placed, length-of}
 use Rattle.rules.specs.Method.{HBCS}
-use Rattle.rules.specs.Placing.{Placing, so-far, stuck, place}
+use Rattle.rules.specs.Placing.{place}
 use Rattle.rules.specs.Answer as rules
 use Rattle.rules.specs.Answer.{Outcome, plan, refuse, too-late, placed-outcome, outcome-by, outcome-read, outcome, answer-of}
 use Rattle.good.specs.ReadIsGood.{read-is-good}
@@ -39,11 +39,10 @@ unfolding refuse answer-of rows-due
 refused-or true number place most later within = omega arith
 refused-or false number place most later within = within refl
 
-placed-within : (W : Workflow) (P : Placing) → rows-due (answer-of (placed-outcome W P)) ≤ W .tasks
+placed-within : (W : Workflow) (rows : List Placed) → rows-due (answer-of (placed-outcome W rows)) ≤ W .tasks
 unfolding placed-outcome answer-of rows-due
-placed-within W (so-far rows) =
+placed-within W rows =
     refused-or (too-late (W .deadline) (length-of rows)) 11 (length-of rows) (W .tasks) (plan W rows) (λ in-time. omega arith)
-placed-within W (stuck i) = omega arith
 
 pub outcome-by-within : (W : Workflow) (lent : ℕ) → rows-due (answer-of (outcome-by HBCS W lent)) ≤ min lent (W .tasks)
 unfolding outcome-by

@@ -1,13 +1,11 @@
 // The plan of a request: the answer, and its rows in four arrays.
 ghost use mathlib.Core.Path.{_≡_};
 ghost use Rattle.rules.specs.Method.{HBCS};
-ghost use Rattle.rules.specs.Placing as rules;
 ghost use Rattle.rules.specs.Answer.{refusal, too-late, placed-outcome, outcome-by, outcome};
 ghost use Rattle.reader.specs.Meaning.{ViewOf, meant-deadline};
 ghost use Rattle.lookup.specs.Lookup.{workflow-of};
-ghost use Rattle.placing.specs.Placed.{RanksOf, PlacedAs};
+ghost use Rattle.placing.specs.Placed.{RanksOf, all-rows, PlacedAs};
 ghost use Rattle.planner.specs.Planned.{PlanOf, outcome-within, rows-told};
-use placing::Outcome;
 use placing::Placing;
 use reader::Deadline;
 use reader::Reading;
@@ -59,36 +57,30 @@ fn too_late(deadline: Deadline, length: u64) -> bool
     }
 }
 
-// What a placing of all tasks is answered with: 10, 11, or the plan.
+// What a placing of all tasks is answered with: 11, or the plan.
 fn plan_placed(s: &[u8], v: View, p: Placing) -> Planning
     requires { ⌜ PlacedAs (workflow-of (now s) v) p ⌝ }
-    ensures { λ r. ⌜ PlanOf (placed-outcome (workflow-of (now (s .entry)) v) (rules.place HBCS (workflow-of (now (s .entry)) v) (v .tasks))) r ⌝ }
+    ensures { λ r. ⌜ PlanOf (placed-outcome (workflow-of (now (s .entry)) v) (all-rows (workflow-of (now (s .entry)) v))) r ⌝ }
 {
-    let outcome = p.outcome;
-    match outcome {
-        Outcome::Stuck(task) => refused(10, task as u64),
-        Outcome::All { length, cost, left } => {
-            let deadline = v.deadline;
-            if too_late(deadline, length) {
-                return refused(11, length);
-            }
-            let processors = p.processors;
-            let starts = p.starts;
-            let finishes = p.finishes;
-            let costs = p.costs;
-            Planning {
-                answer: Answer::Planned {
-                    n: v.tasks as u64,
-                    length,
-                    cost,
-                    left,
-                },
-                processors,
-                starts,
-                finishes,
-                costs,
-            }
-        }
+    let deadline = v.deadline;
+    if too_late(deadline, p.length) {
+        return refused(11, p.length);
+    }
+    let processors = p.processors;
+    let starts = p.starts;
+    let finishes = p.finishes;
+    let costs = p.costs;
+    Planning {
+        answer: Answer::Planned {
+            n: v.tasks as u64,
+            length: p.length,
+            cost: p.cost,
+            left: p.left,
+        },
+        processors,
+        starts,
+        finishes,
+        costs,
     }
 }
 
@@ -120,7 +112,7 @@ pub fn plan_good(s: &[u8], v: View, lent: usize) -> Planning
     refused(8, cycles::lowest_in_cycle(s, v) as u64)
 }
 
-// The plan of a request with so many rows lent: checks 1 to 6, then 7, 8, 9, placing with 10, then 11.
+// The plan of a request with so many rows lent: checks 1 to 6, then 7, 8, 9, then placing, then 11.
 pub fn plan(request: &[u8], lent: usize) -> Planning
     ensures { λ r. ⌜ PlanOf (outcome (now (request .entry)) lent) r ⌝ }
 {

@@ -23,7 +23,7 @@ weights-of-requires : tie.Need-weights-of-requires Inv-loop μ-loop
 weights-of-requires c κs = figures-in-range _ _ (c .figures-of .ensures) (c .before .pre)
 
 loop-holds : tie.Need-loop-holds Inv-loop μ-loop
-loop-holds c = (omega arith, leads-first _ _ refl refl)
+loop-holds c = (omega arith, leads-first _ _ refl refl refl)
 
 mul-cost : tie.Need-mul-cost Inv-loop μ-loop
 mul-cost c = search needs
@@ -61,17 +61,13 @@ loop-again c =
     let stands = c .before .standing .ensures ∙ standing-is _ _ (figures-of .ensures) (loop .j) in
     (omega arith, leads-next _ _ _ (loop .inv .1) stands (c .led .ensures))
 
-taken-requires : tie.Need-taken-requires Inv-loop μ-loop
-taken-requires c κs = search needs
-
 returns : tie.Need-returns Inv-loop μ-loop
 returns c =
-    let a = c .before .before .before .before .before .args in
-    let pre = c .before .before .before .before .before .pre in
-    let loop = c .before .before .loop in
+    let a = c .before .before .before .before .args in
+    let loop = c .before .loop in
     let question = asked (a .m) (a .costs .now) (a .finishes .now) (a .rb) (a .rcb) in
     let passed : loop .j ≡ a .m = omega arith in
-    c .taken .ensures ∙ leads-all question (pre .processors-least) (loop .leader) (rw passed at (loop .inv .1))
+    leads-all question (loop .leader) (rw passed at (loop .inv .1))
 
 pub choose-spec : {M : Type 1} → statement M
 choose-spec =
@@ -91,5 +87,4 @@ choose-spec =
     add-j
     loop-less
     loop-again
-    taken-requires
     returns)

@@ -6,8 +6,8 @@ use Rattle.lookup.specs.Lookup.{workflow-of}
 use Rattle.lookup.specs.Views.{view-in-range}
 use Rattle.laws.specs.Stores.{at}
 use Rattle.hand.specs.Busy.{kept-busy}
-use Rattle.hand.specs.Hand.{hand-of}
-use Rattle.hand.specs.HandLaws.{RowOn, finish-at-most, asked-in-range, row-on, no-row}
+use Rattle.hand.specs.Hand.{row-by}
+use Rattle.hand.specs.HandLaws.{RowOn, finish-at-most, asked-in-range, row-on}
 use borrow.Author.Needs.{needs}
 use native.Mathlib.Omega.{arith}
 use Rattle.hand.proofs.row_for.Statement.{statement}
@@ -15,26 +15,23 @@ use Rattle.hand.proofs.row_for.Tie as tie
 
 -- The row on the processor that is taken.
 chosen-row :
-    (c : tie.After-known-told)
-    → let a = c .before .before .before .before .before .before .before .args in
+    (c : tie.After-choose)
+    → let a = c .before .before .before .before .args in
     let W = workflow-of (a .s .now) (a .v) in
-    let busy = kept-busy (a .until .now) in
-    RowOn W (a .task) (c .before .choice .given .0 .0) (a .costs .now) (c .before .before .before .before .before .finish-on-all .result)
-    (hand-of W (at (a .ready .now)) busy (a .task) HBCS (a .rb) (a .rcb))
+    RowOn W (a .task) (c .choose .result) (a .costs .now) (c .before .before .finish-on-all .result)
+    (row-by W (at (a .ready .now)) (kept-busy (a .until .now)) (a .task) HBCS (a .rb) (a .rcb))
 unfolding workflow
 chosen-row c =
-    let a = c .before .before .before .before .before .before .before .args in
-    let pre = c .before .before .before .before .before .before .before .pre in
+    let a = c .before .before .before .before .args in
+    let pre = c .before .before .before .before .pre in
     let range = view-in-range (a .s .now) (a .v) (pre .0) in
-    let finishes = c .before .before .before .before .before .finish-on-all .ensures in
-    let choose = c .before .before .before .choose in
-    row-on _ range (a .task) _ _ (a .rb) (a .rcb) (pre .1 .1 .0) finishes (choose .ensures) (c .before .choice .given .1)
+    row-on _ range (a .task) _ _ (a .rb) (a .rcb) (pre .1 .1 .0) (c .before .before .finish-on-all .ensures) (c .choose .ensures)
 
-processor-below : (c : tie.After-known-told) → c .before .choice .given .0 .0 < 16
+processor-below : (c : tie.After-choose) → c .choose .result < 16
 unfolding workflow
 processor-below c =
-    let a = c .before .before .before .before .before .before .before .args in
-    let pre = c .before .before .before .before .before .before .before .pre in
+    let a = c .before .before .before .before .args in
+    let pre = c .before .before .before .before .pre in
     omega (arith, chosen-row c .processor, view-in-range (a .s .now) (a .v) (pre .0) .processors-in)
 
 finish-on-all-requires : tie.Need-finish-on-all-requires
@@ -53,22 +50,6 @@ choose-requires c κs =
     (pre .1 .1 .1)
     (pre .1 .1 .2)
 
-enum-known-choice : tie.Need-enum-known-choice
-enum-known-choice c = search needs
-
-enum-told : tie.Need-enum-told
-enum-told c = search needs
-
-returns : tie.Need-returns
-unfolding workflow
-returns c =
-    let a = c .before .before .before .before .before .before .args in
-    let pre = c .before .before .before .before .before .before .pre in
-    let range = view-in-range (a .s .now) (a .v) (pre .0) in
-    let finishes = c .before .before .before .before .finish-on-all .ensures in
-    let choose = c .before .before .choose in
-    no-row _ range (a .task) _ _ (a .rb) (a .rcb) (pre .1 .1 .0) finishes (choose .ensures) (c .enum-told .given .1)
-
 mul-finish : tie.Need-mul-finish
 mul-finish c = omega (arith, processor-below c)
 
@@ -84,14 +65,14 @@ element-copy-out-cost c = processor-below c
 minutes-requires : tie.Need-minutes-requires
 unfolding workflow
 minutes-requires c κs =
-    let pre = c .before .before .before .before .before .before .before .before .pre in
+    let pre = c .before .before .before .before .before .pre in
     (pre .0, (pre .1 .0 .0, chosen-row (c .before) .processor))
 
-sub-t22 : tie.Need-sub-t22
-sub-t22 c = omega (arith, chosen-row (c .before .before) .minutes-in-finish, c .minutes .ensures .0)
+sub-t21 : tie.Need-sub-t21
+sub-t21 c = omega (arith, chosen-row (c .before .before) .minutes-in-finish, c .minutes .ensures .0)
 
-returns-2 : tie.Need-returns-2
-returns-2 c = rw (c .minutes .ensures .0) (chosen-row (c .before .before) .row-is)
+returns : tie.Need-returns
+returns c = rw (c .minutes .ensures .0) (chosen-row (c .before .before) .row-is)
 
 pub row-for-spec : {M : Type 1} → statement M
 row-for-spec =
@@ -99,13 +80,10 @@ row-for-spec =
     (tie.spec
     finish-on-all-requires
     choose-requires
-    enum-known-choice
-    enum-told
-    returns
     mul-finish
     array-read-finish
     mul-cost
     element-copy-out-cost
     minutes-requires
-    sub-t22
-    returns-2)
+    sub-t21
+    returns)

@@ -1,25 +1,24 @@
--- After each turn the rows so far are the rules', and what is kept is what they come to; a turn without a row is where the rules are stuck.
+-- After each turn the rows so far are the rules', and what is kept is what they come to.
 use Prim.Native.Nat.{ℕ, _+_, _-_, _≤_, _<_}
-use mathlib.Core.Path.{_≡_, refl, _∙_}
+use mathlib.Core.Path.{_≡_, refl, ap, _∙_}
 use mathlib.Core.Bool.{Bool}
 use mathlib.Core.List.{List}
 use Rattle.rules.specs.Workflow.{Workflow, workflow}
 use Rattle.rules.specs.Ranks.{next-task}
-use Rattle.rules.specs.Rows.{Row, Placed, is-placed}
+use Rattle.rules.specs.Rows.{Placed, is-placed}
 use Rattle.rules.specs.Method.{HBCS}
-use Rattle.rules.specs.Placing.{RCB}
+use Rattle.rules.specs.Placing.{RCB, place}
 use Rattle.good.specs.Ranges.{InRange}
 use Rattle.lookup.specs.Lookup.{workflow-of}
 use Rattle.lookup.specs.Views.{view-in-range}
 use Rattle.laws.specs.Method.{HBCS-chooses-among}
 use Rattle.costs.specs.CostLaws.{lowest-filled}
 use Rattle.hand.specs.declared.Processors.{Processors}
-use Rattle.placing.specs.State.{State, with-row}
+use Rattle.placing.specs.State.{State, meant-row, with-row}
 use Rattle.placing.specs.Kept.{Kept}
 use Rattle.placing.specs.KeptHand.{ready-within}
 use Rattle.placing.specs.KeptLaws.{kept-first, ends-within, until-within, rb-within, rcb-within, next-kept, next-free, rcb-less}
-use Rattle.placing.specs.KeptMore.{processor, kept-stuck, kept-more}
-use Rattle.placing.specs.PlacedAll.{placed-all, placed-stuck}
+use Rattle.placing.specs.KeptMore.{processor, kept-more}
 use borrow.Author.Needs.{needs}
 use native.Mathlib.Omega.{arith}
 use Rattle.placing.proofs.place.Statement.{statement}
@@ -44,7 +43,8 @@ kept-in sits starts ends costs placed processors rb spent rcb length =
 abbrev Inv-loop : tie.InvT-loop
 Inv-loop s v ranks cheapest links sits₀ starts₀ ends₀ costs₀ placed₀ processors₀ rb₀ spent₀ rcb₀ length₀ k₀
     sits starts ends costs placed processors rb spent rcb length k =
-    (k ≤ v .tasks) × Kept HBCS (workflow-of s v) k (kept-in sits starts ends costs placed processors rb spent rcb length)
+    let W = workflow-of s v in
+    (k ≤ v .tasks) × Kept W (place HBCS W k) k (kept-in sits starts ends costs placed processors rb spent rcb length)
 
 abbrev μ-loop : tie.MeasureT-loop
 μ-loop s v ranks cheapest links sits₀ starts₀ ends₀ costs₀ placed₀ processors₀ rb₀ spent₀ rcb₀ length₀ k₀
@@ -55,10 +55,10 @@ link-all-requires : tie.Need-link-all-requires Inv-loop μ-loop
 link-all-requires c κs = c .before .pre .0
 
 loop-holds : tie.Need-loop-holds Inv-loop μ-loop
-unfolding workflow
+unfolding workflow place
 loop-holds c =
     let pre = c .before .before .pre in
-    (omega arith, kept-first HBCS _ refl (pre .1 .1))
+    (omega arith, kept-first _ refl (pre .1 .1))
 
 next-task-requires : tie.Need-next-task-requires Inv-loop μ-loop
 unfolding workflow
@@ -72,7 +72,7 @@ abbrev flow : tie.After-next-task Inv-loop μ-loop → Workflow
 flow c = let a = c .before .before .before .before .before .before .before .args in workflow-of (a .s .now) (a .v)
 
 abbrev rows-so-far : tie.After-next-task Inv-loop μ-loop → List Placed
-rows-so-far c = c .before .before .before .before .loop .inv .1 .rows
+rows-so-far c = place HBCS (flow c) (c .before .before .before .before .loop .k)
 
 in-range : (c : tie.After-next-task Inv-loop μ-loop) → InRange (flow c)
 in-range c =
@@ -108,29 +108,25 @@ rcb-is c =
     rcb-less (in-range turn) (turn .before .before .before .before .loop .inv .1) (left turn) (next-is turn) lowest-is
 
 -- Once the task has its row: the turn that it ended, and what is kept after it.
-abbrev turn-of : tie.After-known-told Inv-loop μ-loop → tie.After-next-task Inv-loop μ-loop
-turn-of c = c .before .before .before .before .before .before .before .before .before .before .before .before .before .before .before .before .before
+abbrev turn-of : tie.After-row-for Inv-loop μ-loop → tie.After-next-task Inv-loop μ-loop
+turn-of c = c .before .before .before .before .before .before .before .before .before .before .before .before .before .before
 
-turned : (c : tie.After-known-told Inv-loop μ-loop) →
+turned : (c : tie.After-row-for Inv-loop μ-loop) →
     let turn = turn-of c in
     let loop = turn .before .before .before .before .loop in
-    let i = turn .next-task .result in
-    let given = c .before .row .given .0 in
-    let row : Row = record { processor = given .0; start = given .1 .0; finish = given .1 .1 .0; cost = given .1 .1 .1 .0 } in
+    let row = c .row-for .result in
     let state = kept-in (loop .sits) (loop .starts) (loop .ends) (loop .costs) (loop .placed) (loop .processors) (loop .rb) (loop .spent) (loop .rcb) (loop .length) in
-    (row .processor < 16) × Kept HBCS (flow turn) (loop .k + 1)
-    (with-row state i row
-    (loop .rcb - c .before .before .before .before .before .before .before .before .before .before .before .before .before .before .lowest-of .result))
+    (row .processor < 16) × Kept (flow turn) (place HBCS (flow turn) (loop .k + 1)) (loop .k + 1)
+    (with-row state (turn .next-task .result) (meant-row row) (loop .rcb - c .before .before .before .before .before .before .before .before .before .before .before .lowest-of .result))
 unfolding workflow
 turned c =
     let turn = turn-of c in
     let kept = turn .before .before .before .before .loop .inv .1 in
-    let processors-in = in-range turn .processors-in in
-    let to-come = rcb-is (c .before .before .before .before .before .before .before .before .before .before .before .before .before .before) .1 in
-    let handed = rw (c .before .row .given .1) at (c .before .before .before .row-for .ensures) in
-    let all-ready = c .before .before .before .before .before .before .before .before .ready-on-all .ensures in
+    let to-come = rcb-is (c .before .before .before .before .before .before .before .before .before .before .before) .1 in
+    let all-ready = c .before .before .before .before .before .ready-on-all .ensures in
+    let handed = c .row-for .ensures in
     let below = processor HBCS-chooses-among (in-range turn) kept (left turn) (next-is turn) all-ready to-come handed in
-    (omega (arith, below, processors-in .to-high), kept-more HBCS-chooses-among (in-range turn) kept (left turn) (next-is turn) all-ready to-come handed)
+    (omega (arith, below, in-range turn .processors-in .to-high), kept-more HBCS-chooses-among (in-range turn) kept (left turn) (next-is turn) all-ready to-come handed)
 
 cost-on-all-requires : tie.Need-cost-on-all-requires Inv-loop μ-loop
 unfolding workflow
@@ -165,28 +161,12 @@ row-for-requires c κs =
       (
         (
           task-below turn,
-          ready-within HBCS-chooses-among (in-range turn) kept _ all-ready (left turn),
+          ready-within (in-range turn) kept _ all-ready (left turn),
           until-within (in-range turn) kept (left turn),
         ),
         (costs-of .ensures, rb-within (in-range turn) kept (left turn), omega (arith, rcb-within (in-range turn) kept (left turn))),
       ),
     )
-
-enum-known-row : tie.Need-enum-known-row Inv-loop μ-loop
-enum-known-row c = search needs
-
-enum-told : tie.Need-enum-told Inv-loop μ-loop
-enum-told c = search needs
-
-returns : tie.Need-returns Inv-loop μ-loop
-unfolding workflow
-returns c =
-    let turn = c .before .before .before .before .before .before .before .before .before .before .before .before .before .before .before .before in
-    let kept = turn .before .before .before .before .loop .inv .1 in
-    let to-come = rcb-is (c .before .before .before .before .before .before .before .before .before .before .before .before .before) .1 in
-    let all-ready = c .before .before .before .before .before .before .before .ready-on-all .ensures in
-    let handed = rw (c .enum-told .given .1) at (c .before .before .row-for .ensures) in
-    placed-stuck (kept-stuck HBCS-chooses-among (in-range turn) kept (left turn) (next-is turn) all-ready to-come handed)
 
 mul-sits : tie.Need-mul-sits Inv-loop μ-loop
 mul-sits c = omega (arith, task-in-array (turn-of c))
@@ -225,32 +205,44 @@ less-requires : tie.Need-less-requires Inv-loop μ-loop
 less-requires c κs = search needs
 
 add-spent : tie.Need-add-spent Inv-loop μ-loop
-add-spent c = omega (arith, turned (c .before) .1 .spent-most, left (turn-of (c .before)), in-range (turn-of (c .before)) .tasks-in)
+add-spent c =
+    let turn = turn-of (c .before .before) in
+    omega (arith, turned (c .before .before) .1 .spent-most, left turn, in-range turn .tasks-in)
 
 larger-requires : tie.Need-larger-requires Inv-loop μ-loop
 larger-requires c κs = search needs
 
 add-k : tie.Need-add-k Inv-loop μ-loop
 add-k c =
-    let turn = turn-of (c .before .before) in
+    let turn = turn-of (c .before .before .before) in
     omega (arith, left turn, in-range turn .tasks-in)
 
 loop-less : tie.Need-loop-less Inv-loop μ-loop
 unfolding workflow
-loop-less c = omega (arith, left (turn-of (c .before .before)))
+loop-less c = omega (arith, left (turn-of (c .before .before .before)))
 
 loop-again : tie.Need-loop-again Inv-loop μ-loop
 unfolding workflow
 loop-again c =
-    let turned = turned (c .before .before) .1 in
-    (omega (arith, left (turn-of (c .before .before))), rw (c .larger .ensures, c .before .less .ensures) turned)
+    let row = c .before .before .before in
+    (omega (arith, left (turn-of row)), rw (c .larger .ensures, c .before .before .less .ensures) (turned row .1))
 
 less-requires-2 : tie.Need-less-requires-2 Inv-loop μ-loop
 less-requires-2 c κs = search needs
 
-returns-2 : tie.Need-returns-2 Inv-loop μ-loop
+returns : tie.Need-returns Inv-loop μ-loop
 unfolding workflow
-returns-2 c = placed-all (c .before .before .before .loop .inv .1) (omega arith) (c .less2 .ensures)
+returns c =
+    let loop = c .before .before .before .loop in
+    let v = c .before .before .before .before .before .before .args .v in
+    let passed : loop .k ≡ v .tasks = omega arith in
+    let kept = rw passed at (loop .inv .1) in
+    record {
+      length-is = kept .length-is;
+      cost-is = kept .spent-is;
+      left-is = c .less2 .ensures ∙ ap (λ x. v .budget - x) (kept .spent-is);
+      columns = kept .columns;
+    }
 
 pub place-spec : {M : Type 1} → statement M
 place-spec =
@@ -266,9 +258,6 @@ place-spec =
     sub-rcb
     ready-on-all-requires
     row-for-requires
-    enum-known-row
-    enum-told
-    returns
     mul-sits
     array-write-sits
     mul-starts
@@ -287,4 +276,4 @@ place-spec =
     loop-less
     loop-again
     less-requires-2
-    returns-2)
+    returns)
