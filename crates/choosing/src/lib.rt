@@ -13,7 +13,7 @@ pub struct Leader {
     pub finish: u64,
 }
 
-// "The highest score wins; ties to earlier finish."
+// "The highest score [..] wins; ties to earlier finish." One that may not be taken has the lowest standing.
 fn ahead(leader: Leader, standing: u64, finish: u64) -> bool
     ensures { λ r. ⌜ r ≡ ahead-by leader standing finish ⌝ }
 {
