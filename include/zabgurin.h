@@ -2,7 +2,7 @@
    every task, or one numbered refusal and its place.
 
    The library is for x86-64 Linux. Link target/staticlib/libexports.a, which `rt staticlib exports` builds. It allocates nothing, keeps nothing between
-   calls and calls nothing but memcpy and memset; any thread may call any function at any time. A plan or its text needs some 13 KB of stack.
+   calls and calls nothing but memcpy and memset; any thread may call any function at any time. A plan or its text needs less than 13 KB of stack.
 
    A slice is a pointer and the number of its elements. The pointer may be NULL where that number is 0. A request is only read, and only during the call. The
    buffers of one call must not overlap each other or the request. Every function is defined for every request, of any bytes and any length, and for buffers
