@@ -157,18 +157,21 @@ later-refusals-are-due s lent {number} {place} e later = go (read-request s) ref
         let same : number ≡ number′ = cc (given, outcome-of-stopped s stopped-so lent) in
         absurd (omega arith)
 
--- The number of a refusal is one of the table's: 1 to 9, or 11.
-pub refusal-numbers : (s : List ℕ) (lent : ℕ) {number place : ℕ} → answer s lent ≡ refused number place → ((1 ≤ number) × (number ≤ 9)) ⊎ (number ≡ 11)
+-- The numbers in the table of refusals.
+abbrev pub OfTheTable : ℕ → Type 0
+OfTheTable number = ((1 ≤ number) × (number ≤ 9)) ⊎ (number ≡ 11)
+
+pub refusal-numbers : (s : List ℕ) (lent : ℕ) {number place : ℕ} → answer s lent ≡ refused number place → OfTheTable number
 refusal-numbers s lent {number} {place} e = go (refused-iff-answered s lent number place .0 e) refl
   where
-    of-due : {W : Workflow} {o : Outcome} → Due W lent o → o ≡ refusal number place → ((1 ≤ number) × (number ≤ 9)) ⊎ (number ≡ 11)
+    of-due : {W : Workflow} {o : Outcome} → Due W lent o → o ≡ refusal number place → OfTheTable number
     of-due (due.seven few) is = let same : 7 ≡ number = cc in inl (omega arith, omega arith)
     of-due (due.eight enough lowest) is = let same : 8 ≡ number = cc in inl (omega arith, omega arith)
     of-due (due.nine placeable dear) is = let same : 9 ≡ number = cc in inl (omega arith, omega arith)
     of-due (due.eleven placeable p late) is = let same : 11 ≡ number = cc in inr (sym same)
     of-due (due.planned placeable p in-time) is = let z : _≡_ {A = ℕ} 0 1 = cc in absurd (omega arith)
 
-    go : {o : Outcome} → Answered s lent o → o ≡ refusal number place → ((1 ≤ number) × (number ≤ 9)) ⊎ (number ≡ 11)
+    go : {o : Outcome} → Answered s lent o → o ≡ refusal number place → OfTheTable number
     go (refused-in-reading {number = n} stop) is =
         let early = stopped-with-1-to-6 stop in
         let same : n ≡ number = cc in

@@ -49,7 +49,7 @@ score q j =
     + (latest-finish q - q .finish j) * or-one (B q) * or-one (q .RB)
 
 -- "The highest score among those that may be taken wins; ties to earlier finish, then lower number." Where none may be taken no processor is
--- preferred to another; after refusal 9 one always may (`what-is-taken-may-be` of the demands).
+-- preferred to another; once the cheapest total fits, one always may (`cheapest-can-always-be-taken` in the demands).
 unfoldable pub preferred : Question → Order
 preferred q = among (may-be-taken q) (higher (score q) (lower (q .finish) tie))
 

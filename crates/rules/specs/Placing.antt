@@ -21,8 +21,8 @@ start-of W so-far i j = start-on (busy so-far j) (ready-for W so-far i j) (W .mi
 unfoldable pub finish-of : Workflow → List Placed → ℕ → ℕ → ℕ
 finish-of W so-far i j = start-of W so-far i j + W .minutes i j
 
--- "RB: budget less the costs already chosen." After refusal 9 these never come to more than the budget (`stays-affordable` of the demands), so it is
--- never below 0.
+-- "RB: budget less the costs already chosen." Once the cheapest total fits, these never come to more than the budget (`stays-affordable` in the
+-- demands), so it is never below 0.
 unfoldable pub RB : Workflow → List Placed → ℕ
 RB W so-far = W .budget - spent so-far
 
