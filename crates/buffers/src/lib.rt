@@ -42,12 +42,22 @@ pub fn plan_into(
     ensures { λ r. ⌜ PlannedInto (now (request .entry)) (four (now (processors .entry)) (now (starts .entry)) (now (finishes .entry)) (now (costs .entry))) (four (now (processors .exit)) (now (starts .exit)) (now (finishes .exit)) (now (costs .exit))) r ⌝ }
 {
     let lent = shortest(processors.len(), starts.len(), finishes.len(), costs.len());
-    let p = planner::plan(request, lent);
-    let answer = p.answer;
+    let mut processor_of = [0u64; 64];
+    let mut start_of = [0u64; 64];
+    let mut finish_of = [0u64; 64];
+    let mut cost_of = [0u64; 64];
+    let answer = planner::plan_columns(
+        request,
+        lent,
+        &mut processor_of,
+        &mut start_of,
+        &mut finish_of,
+        &mut cost_of,
+    );
     let n = planner::rows_of(answer) as usize;
-    store(processors, &p.processors, n);
-    store(starts, &p.starts, n);
-    store(finishes, &p.finishes, n);
-    store(costs, &p.costs, n);
+    store(processors, &processor_of, n);
+    store(starts, &start_of, n);
+    store(finishes, &finish_of, n);
+    store(costs, &cost_of, n);
     answer
 }

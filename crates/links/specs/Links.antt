@@ -5,7 +5,6 @@ use mathlib.Core.List.{List}
 use lib.ListN.{length}
 use Rattle.laws.specs.Stores.{at}
 use Rattle.rules.specs.Workflow.{Workflow}
-use Rattle.links.specs.declared.Links.{Links}
 
 -- r is 1 more than the last edge below k into task i; 0 where there is none.
 pub record LastInto (W : Workflow) (i k r : ℕ) : Type 0 where
@@ -21,5 +20,6 @@ pub record Linked (W : Workflow) (k : ℕ) (last before : List ℕ) : Type 0 whe
   pub before-into : (e : ℕ) → e < k → LastInto W (W .to e) e (at before e)
   pub none-beyond : (e : ℕ) → k ≤ e → at before e ≡ 0
 
-abbrev pub LinksOf : Workflow → Links → Type 0
-LinksOf W r = Linked W (W .edges) (r .last) (r .before)
+-- The links of all edges.
+abbrev pub LinkedAll : Workflow → (last before : List ℕ) → Type 0
+LinkedAll W last before = Linked W (W .edges) last before

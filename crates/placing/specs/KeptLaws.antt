@@ -24,17 +24,19 @@ use Rattle.laws.specs.Filled.{AtMost}
 use Rattle.hand.specs.Busy.{kept-busy}
 use Rattle.costs.specs.CostLaws.{lowest-cost-at-most}
 use Rattle.order.specs.Standing.{placing-order}
-use Rattle.placing.specs.Placed.{RanksOf}
+use Rattle.placing.specs.Placed.{RanksOf, Columns}
 use Rattle.placing.specs.State.{State, without-rows}
 use Rattle.placing.specs.Kept.{Kept}
-use Rattle.placing.specs.Arrays.{columns-first, marks-first, until-first}
+use Rattle.placing.specs.Arrays.{marks-first, until-first}
 
 -- At first no task is placed.
-pub kept-first : (W : Workflow) {rb rcb : ℕ} → rb ≡ W .budget → rcb ≡ cheapest-total W → Kept W [] 0 (without-rows rb rcb)
+pub kept-first :
+    (W : Workflow) {sits starts ends costs : List ℕ} {rb rcb : ℕ} → Columns [] sits starts ends costs → rb ≡ W .budget → rcb ≡ cheapest-total W
+    → Kept W [] 0 (without-rows sits starts ends costs rb rcb)
 unfolding is-placed spent length-of cheapest-total
-kept-first W budget cheapest =
+kept-first W none budget cheapest =
     record {
-      columns = columns-first;
+      columns = none;
       marks = marks-first;
       busy-until = until-first;
       rb-is = omega arith;

@@ -34,9 +34,9 @@ pub record Columns (rows : List Placed) (processors starts finishes costs : List
 abbrev pub all-rows : Workflow → List Placed
 all-rows W = place HBCS W (W .tasks)
 
--- The answer tells these rows, their length, what they cost, and the budget left.
-pub record PlacedAs (W : Workflow) (r : Placing) : Type 0 where
+-- The arrays hold these rows, and the answer tells their length, what they cost, and the budget left.
+pub record PlacedAs (W : Workflow) (processors starts finishes costs : List ℕ) (r : Placing) : Type 0 where
   pub length-is : r .length ≡ length-of (all-rows W)
   pub cost-is : r .cost ≡ spent (all-rows W)
   pub left-is : r .left ≡ W .budget - spent (all-rows W)
-  pub columns : Columns (all-rows W) (r .processors) (r .starts) (r .finishes) (r .costs)
+  pub columns : Columns (all-rows W) processors starts finishes costs

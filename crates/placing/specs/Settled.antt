@@ -6,27 +6,28 @@ use lib.Seq.{ext-getD}
 use Rattle.rules.specs.Workflow.{Workflow}
 use Rattle.rules.specs.Rows.{Row, Placed}
 use Rattle.placing.specs.declared.Placing.{Placing}
-use Rattle.placing.specs.Placed.{Column, PlacedAs}
+use Rattle.placing.specs.Placed.{Column, Columns, PlacedAs}
 
 pub column-settled : {field : Row → ℕ} {rows : List Placed} {xs ys : List ℕ} → Column field rows xs → Column field rows ys → xs ≡ ys
 column-settled {xs = xs} {ys = ys} a b =
     ext-getD 0 xs ys (a .size ∙ sym (b .size)) (λ i l. a .holds i ∙ sym (b .holds i))
 
-pub placing-settled : (W : Workflow) (a b : Placing) → PlacedAs W a → PlacedAs W b → a ≡ b
+-- Four arrays that hold the same rows are the same.
+pub columns-settled :
+    {rows : List Placed} {p s f c p′ s′ f′ c′ : List ℕ} → Columns rows p s f c → Columns rows p′ s′ f′ c′
+    → (p ≡ p′) × (s ≡ s′) × (f ≡ f′) × (c ≡ c′)
+columns-settled one other = (
+  column-settled (one .processors-hold) (other .processors-hold),
+  column-settled (one .starts-hold) (other .starts-hold),
+  column-settled (one .finishes-hold) (other .finishes-hold),
+  column-settled (one .costs-hold) (other .costs-hold),
+)
+
+pub placing-settled :
+    (W : Workflow) {p s f c p′ s′ f′ c′ : List ℕ} (a b : Placing) → PlacedAs W p s f c a → PlacedAs W p′ s′ f′ c′ b
+    → (a ≡ b) × ((p ≡ p′) × (s ≡ s′) × (f ≡ f′) × (c ≡ c′))
 placing-settled W a b one other =
     let lengths = one .length-is ∙ sym (other .length-is) in
     let spent = one .cost-is ∙ sym (other .cost-is) in
     let left = one .left-is ∙ sym (other .left-is) in
-    let processors = column-settled (one .columns .processors-hold) (other .columns .processors-hold) in
-    let starts = column-settled (one .columns .starts-hold) (other .columns .starts-hold) in
-    let finishes = column-settled (one .columns .finishes-hold) (other .columns .finishes-hold) in
-    let costs = column-settled (one .columns .costs-hold) (other .columns .costs-hold) in
-    λ t. record {
-      length = lengths t;
-      cost = spent t;
-      left = left t;
-      processors = processors t;
-      starts = starts t;
-      finishes = finishes t;
-      costs = costs t;
-    }
+    (λ t. record { length = lengths t; cost = spent t; left = left t }, columns-settled (one .columns) (other .columns))

@@ -18,14 +18,14 @@ pub record State : Type 0 where
   pub rcb : ℕ
   pub length : ℕ
 
--- No task has a row.
-abbrev pub without-rows : (rb rcb : ℕ) → State
-without-rows rb rcb =
+-- At first: four arrays that were lent, in which no task has a row.
+abbrev pub without-rows : (sits starts ends costs : List ℕ) (rb rcb : ℕ) → State
+without-rows sits starts ends costs rb rcb =
     record {
-      sits = replicate 64 0;
-      starts = replicate 64 0;
-      ends = replicate 64 0;
-      costs = replicate 64 0;
+      sits = sits;
+      starts = starts;
+      ends = ends;
+      costs = costs;
       placed = replicate 64 false;
       until = replicate 16 0;
       rb = rb;

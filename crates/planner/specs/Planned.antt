@@ -29,6 +29,11 @@ pub record PlanOf (o : rules.Outcome) (r : Planning) : Type 0 where
   pub answer-is : meant-answer (r .answer) ≡ rules.answer-of o
   pub columns : Columns (rows-in o) (r .processors) (r .starts) (r .finishes) (r .costs)
 
+-- The answer, and four arrays that were lent for the rows, as one plan.
+abbrev pub planned-in : (processors starts finishes costs : List ℕ) → Answer → Planning
+planned-in processors starts finishes costs r =
+    record { answer = r; processors = processors; starts = starts; finishes = finishes; costs = costs }
+
 -- The checks from 9 on.
 unfoldable pub outcome-within : Workflow → rules.Outcome
 outcome-within W =

@@ -1,11 +1,12 @@
 // The plan of a request: the answer, and its rows in four arrays.
 ghost use mathlib.Core.Path.{_≡_};
+ghost use mathlib.Core.List.{[]};
 ghost use Rattle.rules.specs.Method.{HBCS};
-ghost use Rattle.rules.specs.Answer.{refusal, too-late, placed-outcome, outcome-by, outcome};
+ghost use Rattle.rules.specs.Answer.{too-late, placed-outcome, outcome-by, outcome};
 ghost use Rattle.reader.specs.Meaning.{ViewOf, meant-deadline};
 ghost use Rattle.lookup.specs.Lookup.{workflow-of};
-ghost use Rattle.placing.specs.Placed.{RanksOf, all-rows, PlacedAs};
-ghost use Rattle.planner.specs.Planned.{PlanOf, outcome-within, rows-told};
+ghost use Rattle.placing.specs.Placed.{RanksOf, Columns, all-rows, PlacedAs};
+ghost use Rattle.planner.specs.Planned.{PlanOf, planned-in, outcome-within, rows-told};
 use placing::Placing;
 use reader::Deadline;
 use reader::Reading;
@@ -34,19 +35,6 @@ pub struct Planning {
     pub costs: [u64; 64],
 }
 
-// A refusal, with no row.
-fn refused(number: u64, place: u64) -> Planning
-    ensures { λ r. ⌜ PlanOf (refusal number place) r ⌝ }
-{
-    Planning {
-        answer: Answer::Refused { number, place },
-        processors: [0u64; 64],
-        starts: [0u64; 64],
-        finishes: [0u64; 64],
-        costs: [0u64; 64],
-    }
-}
-
 // "length above the deadline"
 fn too_late(deadline: Deadline, length: u64) -> bool
     ensures { λ r. ⌜ r ≡ too-late (meant-deadline deadline) length ⌝ }
@@ -57,69 +45,140 @@ fn too_late(deadline: Deadline, length: u64) -> bool
     }
 }
 
-// What a placing of all tasks is answered with: 11, or the plan.
-fn plan_placed(s: &[u8], v: View, p: Placing) -> Planning
-    requires { ⌜ PlacedAs (workflow-of (now s) v) p ⌝ }
-    ensures { λ r. ⌜ PlanOf (placed-outcome (workflow-of (now (s .entry)) v) (all-rows (workflow-of (now (s .entry)) v))) r ⌝ }
+// What a placing of all tasks is answered with: 11, and the rows are taken back; or the plan.
+fn answer_placed(
+    s: &[u8],
+    v: View,
+    p: Placing,
+    processors: &mut [u64; 64],
+    starts: &mut [u64; 64],
+    finishes: &mut [u64; 64],
+    costs: &mut [u64; 64],
+) -> Answer
+    requires { ⌜ PlacedAs (workflow-of (now s) v) (now processors) (now starts) (now finishes) (now costs) p ⌝ }
+    ensures { λ r. ⌜ PlanOf (placed-outcome (workflow-of (now (s .entry)) v) (all-rows (workflow-of (now (s .entry)) v))) (planned-in (now (processors .exit)) (now (starts .exit)) (now (finishes .exit)) (now (costs .exit)) r) ⌝ }
 {
     let deadline = v.deadline;
     if too_late(deadline, p.length) {
-        return refused(11, p.length);
+        *processors = [0u64; 64];
+        *starts = [0u64; 64];
+        *finishes = [0u64; 64];
+        *costs = [0u64; 64];
+        return Answer::Refused {
+            number: 11,
+            place: p.length,
+        };
     }
-    let processors = p.processors;
-    let starts = p.starts;
-    let finishes = p.finishes;
-    let costs = p.costs;
-    Planning {
-        answer: Answer::Planned {
-            n: v.tasks as u64,
-            length: p.length,
-            cost: p.cost,
-            left: p.left,
-        },
-        processors,
-        starts,
-        finishes,
-        costs,
+    Answer::Planned {
+        n: v.tasks as u64,
+        length: p.length,
+        cost: p.cost,
+        left: p.left,
     }
 }
 
 // Check 9, then placing.
-fn plan_ranked(s: &[u8], v: View, ranks: &[u64; 64]) -> Planning
+fn plan_ranked(
+    s: &[u8],
+    v: View,
+    ranks: &[u64; 64],
+    processors: &mut [u64; 64],
+    starts: &mut [u64; 64],
+    finishes: &mut [u64; 64],
+    costs: &mut [u64; 64],
+) -> Answer
     requires { ⌜ ViewOf (now s) v ⌝ }
     requires { ⌜ RanksOf (workflow-of (now s) v) (now ranks) ⌝ }
-    ensures { λ r. ⌜ PlanOf (outcome-within (workflow-of (now (s .entry)) v)) r ⌝ }
+    requires { ⌜ Columns [] (now processors) (now starts) (now finishes) (now costs) ⌝ }
+    ensures { λ r. ⌜ PlanOf (outcome-within (workflow-of (now (s .entry)) v)) (planned-in (now (processors .exit)) (now (starts .exit)) (now (finishes .exit)) (now (costs .exit)) r) ⌝ }
 {
     let cheapest = costs::cheapest_total(s, v);
     if v.budget < cheapest {
-        return refused(9, cheapest);
+        return Answer::Refused {
+            number: 9,
+            place: cheapest,
+        };
     }
-    plan_placed(s, v, placing::place(s, v, ranks, cheapest))
+    let p = placing::place(s, v, ranks, cheapest, processors, starts, finishes, costs);
+    answer_placed(s, v, p, processors, starts, finishes, costs)
 }
 
-// The plan of a good request, by its view, with so many rows lent: checks 7 and 8, then the rest.
-pub fn plan_good(s: &[u8], v: View, lent: usize) -> Planning
+// The plan of a good request, by its view, with so many rows lent: checks 7 and 8, then the rest. Its rows stand in four lent arrays, which have none at first;
+// 0 past the last task, and in all of them for a refusal.
+pub fn plan_good(
+    s: &[u8],
+    v: View,
+    lent: usize,
+    processors: &mut [u64; 64],
+    starts: &mut [u64; 64],
+    finishes: &mut [u64; 64],
+    costs: &mut [u64; 64],
+) -> Answer
     requires { ⌜ ViewOf (now s) v ⌝ }
-    ensures { λ r. ⌜ PlanOf (outcome-by HBCS (workflow-of (now (s .entry)) v) lent) r ⌝ }
+    requires { ⌜ Columns [] (now processors) (now starts) (now finishes) (now costs) ⌝ }
+    ensures { λ r. ⌜ PlanOf (outcome-by HBCS (workflow-of (now (s .entry)) v) lent) (planned-in (now (processors .exit)) (now (starts .exit)) (now (finishes .exit)) (now (costs .exit)) r) ⌝ }
 {
     if lent < v.tasks {
-        return refused(7, v.tasks as u64);
+        return Answer::Refused {
+            number: 7,
+            place: v.tasks as u64,
+        };
     }
-    let ranked = ranking::rank_all(s, v);
-    if ranked.all {
-        return plan_ranked(s, v, &ranked.ranks);
+    let mut ranks = [0u64; 64];
+    if ranking::rank_all(s, v, &mut ranks) {
+        return plan_ranked(s, v, &ranks, processors, starts, finishes, costs);
     }
-    refused(8, cycles::lowest_in_cycle(s, v) as u64)
+    Answer::Refused {
+        number: 8,
+        place: cycles::lowest_in_cycle(s, v) as u64,
+    }
 }
 
-// The plan of a request with so many rows lent: checks 1 to 6, then 7, 8, 9, then placing, then 11.
-pub fn plan(request: &[u8], lent: usize) -> Planning
-    ensures { λ r. ⌜ PlanOf (outcome (now (request .entry)) lent) r ⌝ }
+// The plan of a request with so many rows lent: checks 1 to 6, then 7, 8, 9, then placing, then 11. Its rows stand in four lent arrays, as those of a good
+// request do.
+pub fn plan_columns(
+    request: &[u8],
+    lent: usize,
+    processors: &mut [u64; 64],
+    starts: &mut [u64; 64],
+    finishes: &mut [u64; 64],
+    costs: &mut [u64; 64],
+) -> Answer
+    requires { ⌜ Columns [] (now processors) (now starts) (now finishes) (now costs) ⌝ }
+    ensures { λ r. ⌜ PlanOf (outcome (now (request .entry)) lent) (planned-in (now (processors .exit)) (now (starts .exit)) (now (finishes .exit)) (now (costs .exit)) r) ⌝ }
 {
     let reading = reader::read_request(request);
     match reading {
-        Reading::Good(v) => plan_good(request, v, lent),
-        Reading::Refused(number, place) => refused(number, place as u64),
+        Reading::Good(v) => plan_good(request, v, lent, processors, starts, finishes, costs),
+        Reading::Refused(number, place) => Answer::Refused {
+            number,
+            place: place as u64,
+        },
+    }
+}
+
+// The plan of a request with so many rows lent, by value.
+pub fn plan(request: &[u8], lent: usize) -> Planning
+    ensures { λ r. ⌜ PlanOf (outcome (now (request .entry)) lent) r ⌝ }
+{
+    let mut processors = [0u64; 64];
+    let mut starts = [0u64; 64];
+    let mut finishes = [0u64; 64];
+    let mut costs = [0u64; 64];
+    let answer = plan_columns(
+        request,
+        lent,
+        &mut processors,
+        &mut starts,
+        &mut finishes,
+        &mut costs,
+    );
+    Planning {
+        answer,
+        processors,
+        starts,
+        finishes,
+        costs,
     }
 }
 

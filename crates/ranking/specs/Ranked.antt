@@ -12,7 +12,6 @@ use Rattle.rules.specs.Ranks.{rank-by, R}
 use Rattle.laws.specs.Bounds.{rank-added-most, rank-most}
 use Rattle.laws.specs.Unmarked.{count-unmarked}
 use Rattle.laws.specs.Onward.{HasNext}
-use Rattle.ranking.specs.declared.Ranked.{Ranked}
 
 -- Task i has its rank.
 abbrev pub has-rank : List ℕ → ℕ → Bool
@@ -46,10 +45,10 @@ abbrev pub AllHeldUp : Workflow → ℕ → List ℕ → Type 0
 AllHeldUp W first ranks = (i : ℕ) → first ≤ i → i < W .tasks → HeldUp W ranks i
 
 -- "R(i) = ..", for all tasks unless the edges have a cycle. The array is 0 past the last task, and throughout where there is a cycle.
-pub record RankedAs (W : Workflow) (r : Ranked) : Type 0 where
-  pub all-unless-cyclic : r .all ≡ not (cyclic W)
-  pub size : length (r .ranks) ≡ 64
-  pub ranks-are : r .all ≡ true → (i : ℕ) → i < W .tasks → at (r .ranks) i ≡ R W i
-  pub past : (i : ℕ) → W .tasks ≤ i → at (r .ranks) i ≡ 0
-  pub none-with-cycle : r .all ≡ false → (i : ℕ) → at (r .ranks) i ≡ 0
-  pub at-most : (i : ℕ) → at (r .ranks) i ≤ rank-most
+pub record RankedAs (W : Workflow) (ranks : List ℕ) (all : Bool) : Type 0 where
+  pub all-unless-cyclic : all ≡ not (cyclic W)
+  pub size : length ranks ≡ 64
+  pub ranks-are : all ≡ true → (i : ℕ) → i < W .tasks → at ranks i ≡ R W i
+  pub past : (i : ℕ) → W .tasks ≤ i → at ranks i ≡ 0
+  pub none-with-cycle : all ≡ false → (i : ℕ) → at ranks i ≡ 0
+  pub at-most : (i : ℕ) → at ranks i ≤ rank-most

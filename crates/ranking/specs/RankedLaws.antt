@@ -57,7 +57,7 @@ module _ (W : Workflow) (range : InRange W) where
     not-cyclic =
         false-unless-true (cyclic W) (λ h. let w = cyclic-iff W (range .to-below) .0 h in none-back (w .0) (w .2))
 
-    pub ranked-all : RankedAs W (record { all = true; ranks = ranks })
+    pub ranked-all : RankedAs W ranks true
     ranked-all =
         record {
           all-unless-cyclic = rw not-cyclic;
@@ -77,7 +77,7 @@ module _ (W : Workflow) (range : InRange W) where
         cyclic-iff W (range .to-below) .1
         (some-leads-back W (range .to-below) (Unknown ranks) (λ k below. held-up k (omega arith) below) i l unknown)
 
-    pub ranked-not-all : RankedAs W (record { all = false; ranks = replicate 64 0 })
+    pub ranked-not-all : RankedAs W (replicate 64 0) false
     ranked-not-all =
         let none : (i : ℕ) → at (replicate 64 0) i ≡ 0 = repeated 64 0 in
         record {

@@ -11,12 +11,6 @@ ghost use Rattle.ranking.specs.Begins.{Begins, BeginsFrom};
 ghost use Rattle.ranking.specs.Ranked.{RankedSoFar, NextRank, HeldUp, AllHeldUp, RankedAs};
 use reader::View;
 
-// Whether all tasks are ranked, which they are without a cycle, and their ranks; 0 past the last task, and throughout with a cycle.
-pub struct Ranked {
-    pub all: bool,
-    pub ranks: [u64; 64],
-}
-
 // The minutes of a task on all processors together.
 fn all_minutes(s: &[u8], v: View, task: usize) -> u64
     requires { ⌜ ViewOf (now s) v ⌝ }
@@ -131,23 +125,22 @@ fn rank_pass(s: &[u8], v: View, begins: &[u16; 65], ranks: &mut [u64; 64], left:
     now_left
 }
 
-// The ranks of all tasks, each computed once its successors have theirs; where the edges have a cycle, not all are ranked.
-pub fn rank_all(s: &[u8], v: View) -> Ranked
+// Ranks all tasks in a lent array in which none is ranked yet, each once its successors have theirs. Answers whether all are ranked, which they are without a
+// cycle; with one the array is 0 throughout.
+pub fn rank_all(s: &[u8], v: View, ranks: &mut [u64; 64]) -> bool
     requires { ⌜ ViewOf (now s) v ⌝ }
-    ensures { λ r. ⌜ RankedAs (workflow-of (now (s .entry)) v) r ⌝ }
+    requires { ⌜ RankedSoFar (workflow-of (now s) v) (now ranks) (v .tasks) ⌝ }
+    ensures { λ r. ⌜ RankedAs (workflow-of (now (s .entry)) v) (now (ranks .exit)) r ⌝ }
 {
     let begins = begins_all(s, v);
-    let mut ranks = [0u64; 64];
     let mut left = v.tasks;
     while 0 < left {
         let before = left;
-        left = rank_pass(s, v, &begins, &mut ranks, before);
+        left = rank_pass(s, v, &begins, ranks, before);
         if left == before {
-            return Ranked {
-                all: false,
-                ranks: [0u64; 64],
-            };
+            *ranks = [0u64; 64];
+            return false;
         }
     }
-    Ranked { all: true, ranks }
+    true
 }

@@ -21,8 +21,19 @@ fn put_plan(out: &mut [u8], s: &[u8], v: View) -> usize
     requires { ⌜ 2_145 ≤ length (now out) ⌝ }
     ensures { λ r. ⌜ Wrote (now (out .entry)) 0 (text (now (s .entry))) (now (out .exit)) r ⌝ }
 {
-    let p = planner::plan_good(s, v, 64);
-    let answer = p.answer;
+    let mut processor_of = [0u64; 64];
+    let mut start_of = [0u64; 64];
+    let mut finish_of = [0u64; 64];
+    let mut cost_of = [0u64; 64];
+    let answer = planner::plan_good(
+        s,
+        v,
+        64,
+        &mut processor_of,
+        &mut start_of,
+        &mut finish_of,
+        &mut cost_of,
+    );
     let end = lines::put_first_line(out, answer);
     let n = planner::rows_of(answer) as usize;
     lines::put_rows(
@@ -31,10 +42,10 @@ fn put_plan(out: &mut [u8], s: &[u8], v: View) -> usize
         s,
         v,
         n,
-        &p.processors,
-        &p.starts,
-        &p.finishes,
-        &p.costs,
+        &processor_of,
+        &start_of,
+        &finish_of,
+        &cost_of,
     )
 }
 

@@ -2,7 +2,9 @@
 use Prim.Native.Nat.{_≤_, min}
 use Rattle.rules.specs.Answer.{Outcome, outcome, answer}
 use Rattle.rules.specs.Buffers.{Buffers, rows-lent, buffers-written, buffers-after}
-use Rattle.planner.specs.Planned.{PlanOf}
+use Rattle.placing.specs.Arrays.{columns-first}
+use Rattle.planner.specs.declared.Planning.{Planning}
+use Rattle.planner.specs.Planned.{PlanOf, planned-in}
 use Rattle.planner.specs.Reach.{rows-in-reach}
 use Rattle.buffers.specs.Into.{four}
 use Rattle.buffers.specs.Stored.{column-stored}
@@ -14,56 +16,52 @@ use Rattle.buffers.proofs.plan_into.Tie as tie
 -- The buffers that are lent, and the outcome for as many rows as the shortest of them has numbers.
 abbrev lent : tie.After-rows-of → Buffers
 lent c =
-    let a = c .before .before .before .before .before .before .before .before .args in
+    let a = c .before .before .before .before .before .before .before .before .before .before .before .before .args in
     four (a .processors .now) (a .starts .now) (a .finishes .now) (a .costs .now)
 
 abbrev outcome-due : tie.After-rows-of → Outcome
-outcome-due c = outcome (c .before .before .before .before .before .before .before .before .args .request .now) (rows-lent (lent c))
+outcome-due c = outcome (c .before .before .before .before .before .before .before .before .before .before .before .before .args .request .now) (rows-lent (lent c))
 
--- The plan is that outcome's.
-planned : (c : tie.After-rows-of) →
-    PlanOf (outcome-due c) (c .before .plan .result)
+-- The answer and the four columns are that outcome's plan.
+abbrev plan-of : tie.After-rows-of → Planning
+plan-of c =
+    let planned = c .before .plan-columns in
+    let columns = planned .last .1 .1 in
+    planned-in (columns .0) (columns .1 .0) (columns .1 .1 .0) (columns .1 .1 .1 .0) (planned .result)
+
+planned : (c : tie.After-rows-of) → PlanOf (outcome-due c) (plan-of c)
 unfolding rows-lent
-planned c = rw (c .before .before .shortest .ensures) at (c .before .plan .ensures)
+planned c = rw (c .before .before .before .before .before .before .shortest .ensures) at (c .before .plan-columns .ensures)
 
 -- Its rows are in the columns, and each buffer has room for them.
 in-reach : (c : tie.After-rows-of) →
     c .rows-of .result ≤ min (rows-lent (lent c)) 64
-in-reach c = rw (c .rows-of .ensures) (rows-in-reach _ _ (c .before .plan .result .answer) (planned c .answer-is))
+in-reach c = rw (c .rows-of .ensures) (rows-in-reach _ _ (plan-of c .answer) (planned c .answer-is))
 
 shortest-requires : tie.Need-shortest-requires
 shortest-requires c κs = search needs
 
-plan-requires : tie.Need-plan-requires
-plan-requires c κs = search needs
+plan-columns-requires : tie.Need-plan-columns-requires
+plan-columns-requires c κs = columns-first
 
 rows-of-requires : tie.Need-rows-of-requires
 rows-of-requires c κs = search needs
 
 store-requires : tie.Need-store-requires
 unfolding rows-lent
-store-requires c κs = let fits = in-reach (c .before .before .before) in (omega arith, omega arith)
+store-requires c κs = let fits = in-reach (c .before .before) in (omega arith, omega arith)
 
 store-requires-2 : tie.Need-store-requires-2
 unfolding rows-lent
-store-requires-2 c κs =
-    let store = c .before .before .before .before .before in
-    let fits = in-reach (store .before .before .before .before) in (omega arith, omega arith)
+store-requires-2 c κs = let fits = in-reach (c .before .before .before .before .before .before .before) in (omega arith, omega arith)
 
 store-requires-3 : tie.Need-store-requires-3
 unfolding rows-lent
-store-requires-3 c κs =
-    let store2 = c .before .before .before .before .before in
-    let store = store2 .before .before .before .before .before .before in
-    let fits = in-reach (store .before .before .before .before) in (omega arith, omega arith)
+store-requires-3 c κs = let fits = in-reach (c .before .before .before .before .before .before .before .before .before .before .before .before) in (omega arith, omega arith)
 
 store-requires-4 : tie.Need-store-requires-4
 unfolding rows-lent
-store-requires-4 c κs =
-    let store3 = c .before .before .before .before .before in
-    let store2 = store3 .before .before .before .before .before .before in
-    let store = store2 .before .before .before .before .before .before in
-    let fits = in-reach (store .before .before .before .before) in (omega arith, omega arith)
+store-requires-4 c κs = let fits = in-reach (c .before .before .before .before .before .before .before .before .before .before .before .before .before .before .before .before .before) in (omega arith, omega arith)
 
 same-length : tie.Need-same-length
 same-length c = search needs
@@ -81,13 +79,13 @@ returns : tie.Need-returns
 unfolding answer buffers-after buffers-written
 returns c =
     let store4 = c .before .before in
-    let store3 = store4 .before .before .before .before .before .before in
-    let store2 = store3 .before .before .before .before .before .before in
-    let store = store2 .before .before .before .before .before .before in
-    let rows-of = store .before .before .before .before in
+    let store3 = store4 .before .before .before .before .before in
+    let store2 = store3 .before .before .before .before .before in
+    let store = store2 .before .before .before .before .before in
+    let rows-of = store .before .before .before in
     let b = lent rows-of in
     let o = outcome-due rows-of in
-    let answer = rows-of .before .plan .result .answer in
+    let answer = plan-of rows-of .answer in
     let is = planned rows-of .answer-is in
     let columns = planned rows-of .columns in
     let count = rows-of .rows-of .ensures in
@@ -102,7 +100,7 @@ plan-into-spec =
     tie.close
     (tie.spec
     shortest-requires
-    plan-requires
+    plan-columns-requires
     rows-of-requires
     store-requires
     store-requires-2

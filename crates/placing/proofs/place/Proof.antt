@@ -12,6 +12,7 @@ use Rattle.good.specs.Ranges.{InRange}
 use Rattle.lookup.specs.Lookup.{workflow-of}
 use Rattle.lookup.specs.Views.{view-in-range}
 use Rattle.laws.specs.Method.{HBCS-chooses-among}
+use Rattle.links.specs.LinksLaws.{linked-first}
 use Rattle.costs.specs.CostLaws.{lowest-filled}
 use Rattle.hand.specs.declared.Processors.{Processors}
 use Rattle.placing.specs.State.{State, meant-row, with-row}
@@ -41,42 +42,42 @@ kept-in sits starts ends costs placed processors rb spent rcb length =
     }
 
 abbrev Inv-loop : tie.InvT-loop
-Inv-loop s v ranks cheapest links sits₀ starts₀ ends₀ costs₀ placed₀ processors₀ rb₀ spent₀ rcb₀ length₀ k₀
+Inv-loop s v ranks cheapest sits₀ starts₀ ends₀ costs₀ last before placed₀ processors₀ rb₀ spent₀ rcb₀ length₀ k₀
     sits starts ends costs placed processors rb spent rcb length k =
     let W = workflow-of s v in
     (k ≤ v .tasks) × Kept W (place HBCS W k) k (kept-in sits starts ends costs placed processors rb spent rcb length)
 
 abbrev μ-loop : tie.MeasureT-loop
-μ-loop s v ranks cheapest links sits₀ starts₀ ends₀ costs₀ placed₀ processors₀ rb₀ spent₀ rcb₀ length₀ k₀
+μ-loop s v ranks cheapest sits₀ starts₀ ends₀ costs₀ last before placed₀ processors₀ rb₀ spent₀ rcb₀ length₀ k₀
     sits starts ends costs placed processors rb spent rcb length k =
     v .tasks - k
 
 link-all-requires : tie.Need-link-all-requires Inv-loop μ-loop
-link-all-requires c κs = c .before .pre .0
+link-all-requires c κs = (c .before .before .before .pre .0, linked-first _)
 
 loop-holds : tie.Need-loop-holds Inv-loop μ-loop
 unfolding workflow place
 loop-holds c =
-    let pre = c .before .before .pre in
-    (omega arith, kept-first _ refl (pre .1 .1))
+    let pre = c .before .before .before .before .pre in
+    (omega arith, kept-first _ (pre .1 .1) refl (pre .1 .0 .1))
 
 next-task-requires : tie.Need-next-task-requires Inv-loop μ-loop
 unfolding workflow
 next-task-requires c κs =
-    let start = c .before .before .before .before .before .before in
+    let start = c .before .before .before .before .before .before .before .before in
     let range = view-in-range (start .args .s .now) (start .args .v) (start .pre .0) in
-    (range .tasks-in .from-low, range .tasks-in .to-high, start .pre .1 .0 .at-most)
+    (range .tasks-in .from-low, range .tasks-in .to-high, start .pre .1 .0 .0 .at-most)
 
 -- In a turn: the workflow, which is in range, the rows so far, and that a task is left.
 abbrev flow : tie.After-next-task Inv-loop μ-loop → Workflow
-flow c = let a = c .before .before .before .before .before .before .before .args in workflow-of (a .s .now) (a .v)
+flow c = let a = c .before .before .before .before .before .before .before .before .before .args in workflow-of (a .s .now) (a .v)
 
 abbrev rows-so-far : tie.After-next-task Inv-loop μ-loop → List Placed
 rows-so-far c = place HBCS (flow c) (c .before .before .before .before .loop .k)
 
 in-range : (c : tie.After-next-task Inv-loop μ-loop) → InRange (flow c)
 in-range c =
-    let start = c .before .before .before .before .before .before .before in
+    let start = c .before .before .before .before .before .before .before .before .before in
     view-in-range (start .args .s .now) (start .args .v) (start .pre .0)
 
 left : (c : tie.After-next-task Inv-loop μ-loop) → c .before .before .before .before .loop .k < flow c .tasks
@@ -87,8 +88,8 @@ left c = c .before .before .if1 .taken
 next-is : (c : tie.After-next-task Inv-loop μ-loop) → c .next-task .result ≡ next-task (flow c) (is-placed (rows-so-far c))
 unfolding workflow
 next-is c =
-    let pre = c .before .before .before .before .before .before .before .pre in
-    next-kept (in-range c) (c .before .before .before .before .loop .inv .1) (left c) (pre .1 .0) (c .next-task .ensures)
+    let pre = c .before .before .before .before .before .before .before .before .before .pre in
+    next-kept (in-range c) (c .before .before .before .before .loop .inv .1) (left c) (pre .1 .0 .0) (c .next-task .ensures)
 
 task-below : (c : tie.After-next-task Inv-loop μ-loop) → c .next-task .result < flow c .tasks
 task-below c = next-free (in-range c) (c .before .before .before .before .loop .inv .1) (left c) (next-is c) .0
@@ -109,7 +110,7 @@ rcb-is c =
 
 -- Once the task has its row: the turn that it ended, and what is kept after it.
 abbrev turn-of : tie.After-row-for Inv-loop μ-loop → tie.After-next-task Inv-loop μ-loop
-turn-of c = c .before .before .before .before .before .before .before .before .before .before .before .before .before .before
+turn-of c = c .before .before .before .before .before .before .before .before .before .before .before .before .before
 
 turned : (c : tie.After-row-for Inv-loop μ-loop) →
     let turn = turn-of c in
@@ -117,12 +118,12 @@ turned : (c : tie.After-row-for Inv-loop μ-loop) →
     let row = c .row-for .result in
     let state = kept-in (loop .sits) (loop .starts) (loop .ends) (loop .costs) (loop .placed) (loop .processors) (loop .rb) (loop .spent) (loop .rcb) (loop .length) in
     (row .processor < 16) × Kept (flow turn) (place HBCS (flow turn) (loop .k + 1)) (loop .k + 1)
-    (with-row state (turn .next-task .result) (meant-row row) (loop .rcb - c .before .before .before .before .before .before .before .before .before .before .before .lowest-of .result))
+    (with-row state (turn .next-task .result) (meant-row row) (loop .rcb - c .before .before .before .before .before .before .before .before .before .before .lowest-of .result))
 unfolding workflow
 turned c =
     let turn = turn-of c in
     let kept = turn .before .before .before .before .loop .inv .1 in
-    let to-come = rcb-is (c .before .before .before .before .before .before .before .before .before .before .before) .1 in
+    let to-come = rcb-is (c .before .before .before .before .before .before .before .before .before .before) .1 in
     let all-ready = c .before .before .before .before .before .ready-on-all .ensures in
     let handed = c .row-for .ensures in
     let below = processor HBCS-chooses-among (in-range turn) kept (left turn) (next-is turn) all-ready to-come handed in
@@ -131,7 +132,7 @@ turned c =
 cost-on-all-requires : tie.Need-cost-on-all-requires Inv-loop μ-loop
 unfolding workflow
 cost-on-all-requires c κs =
-    let start = c .before .before .before .before .before .before .before in
+    let start = c .before .before .before .before .before .before .before .before .before in
     (start .pre .0, task-below c)
 
 lowest-of-requires : tie.Need-lowest-of-requires Inv-loop μ-loop
@@ -146,18 +147,18 @@ sub-rcb c = rcb-is c .0
 ready-on-all-requires : tie.Need-ready-on-all-requires Inv-loop μ-loop
 unfolding workflow
 ready-on-all-requires c κs =
-    let turn = c .before .before .before .before .before .before .before .before in
+    let turn = c .before .before .before .before .before .before .before in
     let kept = turn .before .before .before .before .loop .inv .1 in
-    (turn .before .before .before .before .before .before .before .pre .0, (task-below turn, turn .before .before .before .before .before .link-all .ensures, ends-within (in-range turn) kept (left turn)))
+    (turn .before .before .before .before .before .before .before .before .before .pre .0, (task-below turn, turn .before .before .before .before .before .link-all .ensures, ends-within (in-range turn) kept (left turn)))
 
 row-for-requires : tie.Need-row-for-requires Inv-loop μ-loop
 unfolding workflow
 row-for-requires c κs =
-    let turn = c .before .before .before .before .before .before .before .before .before .before .before .before .before in
+    let turn = c .before .before .before .before .before .before .before .before .before .before .before .before in
     let kept = turn .before .before .before .before .loop .inv .1 in
-    let costs-of = c .before .before .before .before .before .before .before .before .before .before .before .before .cost-on-all in
+    let costs-of = c .before .before .before .before .before .before .before .before .before .before .before .cost-on-all in
     let all-ready = c .before .before .before .before .ready-on-all .ensures in (
-      turn .before .before .before .before .before .before .before .pre .0,
+      turn .before .before .before .before .before .before .before .before .before .pre .0,
       (
         (
           task-below turn,
@@ -171,26 +172,26 @@ row-for-requires c κs =
 mul-sits : tie.Need-mul-sits Inv-loop μ-loop
 mul-sits c = omega (arith, task-in-array (turn-of c))
 
-array-write-sits : tie.Need-array-write-sits Inv-loop μ-loop
-array-write-sits c = task-in-array (turn-of c)
+element-write-sits : tie.Need-element-write-sits Inv-loop μ-loop
+element-write-sits c = task-in-array (turn-of c)
 
 mul-starts : tie.Need-mul-starts Inv-loop μ-loop
 mul-starts c = omega (arith, task-in-array (turn-of c))
 
-array-write-starts : tie.Need-array-write-starts Inv-loop μ-loop
-array-write-starts c = task-in-array (turn-of c)
+element-write-starts : tie.Need-element-write-starts Inv-loop μ-loop
+element-write-starts c = task-in-array (turn-of c)
 
 mul-ends : tie.Need-mul-ends Inv-loop μ-loop
 mul-ends c = omega (arith, task-in-array (turn-of c))
 
-array-write-ends : tie.Need-array-write-ends Inv-loop μ-loop
-array-write-ends c = task-in-array (turn-of c)
+element-write-ends : tie.Need-element-write-ends Inv-loop μ-loop
+element-write-ends c = task-in-array (turn-of c)
 
 mul-costs : tie.Need-mul-costs Inv-loop μ-loop
 mul-costs c = omega (arith, task-in-array (turn-of c))
 
-array-write-costs : tie.Need-array-write-costs Inv-loop μ-loop
-array-write-costs c = task-in-array (turn-of c)
+element-write-costs : tie.Need-element-write-costs Inv-loop μ-loop
+element-write-costs c = task-in-array (turn-of c)
 
 array-write-placed : tie.Need-array-write-placed Inv-loop μ-loop
 array-write-placed c = task-in-array (turn-of c)
@@ -234,7 +235,7 @@ returns : tie.Need-returns Inv-loop μ-loop
 unfolding workflow
 returns c =
     let loop = c .before .before .before .loop in
-    let v = c .before .before .before .before .before .before .args .v in
+    let v = c .before .before .before .before .before .before .before .before .args .v in
     let passed : loop .k ≡ v .tasks = omega arith in
     let kept = rw passed at (loop .inv .1) in
     record {
@@ -259,13 +260,13 @@ place-spec =
     ready-on-all-requires
     row-for-requires
     mul-sits
-    array-write-sits
+    element-write-sits
     mul-starts
-    array-write-starts
+    element-write-starts
     mul-ends
-    array-write-ends
+    element-write-ends
     mul-costs
-    array-write-costs
+    element-write-costs
     array-write-placed
     mul-processors
     element-write-processors

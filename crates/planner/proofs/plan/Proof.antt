@@ -1,51 +1,18 @@
--- By the cases of the reading: a refusal handed up, or the plan of a good request.
-use mathlib.Core.Path.{sym, ap, _∙_}
-use Rattle.rules.specs.Answer.{outcome, outcome-read}
-use Rattle.reader.specs.Meaning.{meant-reading}
+-- The arrays hold no row at first, and then the plan's.
+use Rattle.placing.specs.Arrays.{columns-first}
 use borrow.Author.Needs.{needs}
 use Rattle.planner.proofs.plan.Statement.{statement}
 use Rattle.planner.proofs.plan.Tie as tie
 
-read-request-requires : tie.Need-read-request-requires
-read-request-requires c κs = search needs
-
-enum-known-reading : tie.Need-enum-known-reading
-enum-known-reading c = search needs
-
-plan-good-requires : tie.Need-plan-good-requires
-plan-good-requires c κs =
-    let s = c .before .before .before .before .before .args .request .now in
-    let read-request = c .before .before .before .read-request in
-    sym (read-request .ensures) ∙ ap (meant-reading s) (c .before .reading .given .1)
-
-enum-known-reading-2 : tie.Need-enum-known-reading-2
-enum-known-reading-2 c = search needs
-
-refused-requires : tie.Need-refused-requires
-refused-requires c κs = search needs
+plan-columns-requires : tie.Need-plan-columns-requires
+plan-columns-requires c κs = columns-first
 
 returns : tie.Need-returns
-unfolding outcome outcome-read
-returns c =
-    let s = c .before .before .before .before .before .before .args .request .now in
-    let read-request = c .before .before .before .before .read-request in
-    rw (sym (read-request .ensures) ∙ ap (meant-reading s) (c .before .before .reading .given .1)) (c .plan-good .ensures)
-
-returns-2 : tie.Need-returns-2
-unfolding outcome outcome-read
-returns-2 c =
-    let s = c .before .before .before .before .before .before .args .request .now in
-    let read-request = c .before .before .before .before .read-request in
-    rw (sym (read-request .ensures) ∙ ap (meant-reading s) (c .before .before .reading2 .given .1)) (c .refused .ensures)
+returns c = search needs
 
 pub plan-spec : {M : Type 1} → statement M
 plan-spec =
     tie.close
     (tie.spec
-    read-request-requires
-    enum-known-reading
-    plan-good-requires
-    enum-known-reading-2
-    refused-requires
-    returns
-    returns-2)
+    plan-columns-requires
+    returns)

@@ -3,71 +3,65 @@ use mathlib.Core.Path.{sym, _∙_}
 use borrow.Author.Tests.{not-true, not-false}
 use Rattle.rules.specs.Workflow.{workflow}
 use Rattle.lookup.specs.Lookup.{workflow-of}
+use Rattle.lookup.specs.Views.{view-in-range}
+use Rattle.ranking.specs.RankedLaws.{ranked-none}
 use Rattle.planner.specs.Checks.{too-few-rows, with-cycle, without-cycle}
-use borrow.Author.Needs.{needs}
+use Rattle.planner.specs.Plans.{refused-plan}
 use Rattle.planner.proofs.plan_good.Statement.{statement}
 use Rattle.planner.proofs.plan_good.Tie as tie
-
-refused-requires : tie.Need-refused-requires
-refused-requires c κs = search needs
 
 returns : tie.Need-returns
 unfolding workflow
 returns c =
-    let a = c .before .before .before .before .args in
-    rw (too-few-rows (workflow-of (a .s .now) (a .v)) (a .lent) (c .before .if1 .taken)) (c .refused .ensures)
+    let start = c .before .before .before in
+    let a = start .args in
+    rw (too-few-rows (workflow-of (a .s .now) (a .v)) (a .lent) (c .if1 .taken)) (refused-plan (start .pre .1) 7 _)
 
 rank-all-requires : tie.Need-rank-all-requires
-rank-all-requires c κs = search needs
+unfolding workflow
+rank-all-requires c κs =
+    let start = c .before .before .before .before in
+    let a = start .args in
+    (start .pre .0, ranked-none (workflow-of (a .s .now) (a .v)) (view-in-range (a .s .now) (a .v) (start .pre .0)))
 
 plan-ranked-requires : tie.Need-plan-ranked-requires
 plan-ranked-requires c κs =
-    let ranked = c .before .before .before .rank-all .ensures in (
-      c .before .before .before .before .before .before .before .pre,
-      record { are = ranked .ranks-are (c .before .before .if2 .taken); at-most = ranked .at-most },
-    )
+    let pre = c .before .before .before .before .before .before .before .before .before .before .before .pre in
+    let ranked = c .before .before .before .before .before .before .rank-all .ensures in
+    (pre .0, (record { are = ranked .ranks-are (c .before .before .before .before .before .if2 .taken); at-most = ranked .at-most }, pre .1))
 
 returns-2 : tie.Need-returns-2
 unfolding workflow
 returns-2 c =
-    let a = c .before .before .before .before .before .before .before .before .args in
-    let if1 = c .before .before .before .before .before .if1 in
-    let rank-all = c .before .before .before .before .rank-all in
-    let if2 = c .before .before .before .if2 in
+    let a = c .before .before .before .before .before .before .before .before .before .before .before .before .args in
+    let ranked = c .before .before .before .before .before .before .before .rank-all .ensures in
     rw
-    (without-cycle (workflow-of (a .s .now) (a .v)) (a .lent) (if1 .left) (not-true _ (sym (rank-all .ensures .all-unless-cyclic) ∙ if2 .taken)))
+    (without-cycle (workflow-of (a .s .now) (a .v)) (a .lent) (c .before .before .before .before .before .before .before .before .before .if1 .left) (not-true _ (sym (ranked .all-unless-cyclic) ∙ c .before .before .before .before .before .before .if2 .taken)))
     (c .plan-ranked .ensures)
 
 lowest-in-cycle-requires : tie.Need-lowest-in-cycle-requires
 lowest-in-cycle-requires c κs =
-    (c .before .before .before .before .before .pre, not-false _ (sym (c .before .rank-all .ensures .all-unless-cyclic) ∙ c .if2 .left))
-
-refused-requires-2 : tie.Need-refused-requires-2
-refused-requires-2 c κs = search needs
+    (c .before .before .before .before .before .before .pre .0, not-false _ (sym (c .before .rank-all .ensures .all-unless-cyclic) ∙ c .if2 .left))
 
 returns-3 : tie.Need-returns-3
 unfolding workflow
 returns-3 c =
-    let a = c .before .before .before .before .before .before .before .args in
-    let if1 = c .before .before .before .before .if1 in
-    let rank-all = c .before .before .before .rank-all in
-    let if2 = c .before .before .if2 in
-    let lowest-in-cycle = c .before .lowest-in-cycle in
+    let start = c .before .before .before .before .before .before .before in
+    let a = start .args in
+    let ranked = c .before .before .rank-all .ensures in
     rw (
-      with-cycle (workflow-of (a .s .now) (a .v)) (a .lent) (if1 .left) (not-false _ (sym (rank-all .ensures .all-unless-cyclic) ∙ if2 .left)),
-      ← lowest-in-cycle .ensures,
+      with-cycle (workflow-of (a .s .now) (a .v)) (a .lent) (c .before .before .before .before .if1 .left) (not-false _ (sym (ranked .all-unless-cyclic) ∙ c .before .if2 .left)),
+      ← c .lowest-in-cycle .ensures,
     )
-    (c .refused2 .ensures)
+    (refused-plan (start .pre .1) 8 _)
 
 pub plan-good-spec : {M : Type 1} → statement M
 plan-good-spec =
     tie.close
     (tie.spec
-    refused-requires
     returns
     rank-all-requires
     plan-ranked-requires
     returns-2
     lowest-in-cycle-requires
-    refused-requires-2
     returns-3)

@@ -5,38 +5,35 @@ use Rattle.lookup.specs.Lookup.{workflow-of}
 use Rattle.lookup.specs.Views.{view-in-range}
 use Rattle.laws.specs.Turned.{turned-still, turned-less}
 use Rattle.ranking.specs.Ranked.{RankedSoFar}
-use Rattle.ranking.specs.RankedLaws.{ranked-none, ranked-all, ranked-not-all}
+use Rattle.ranking.specs.RankedLaws.{ranked-all, ranked-not-all}
 use native.Mathlib.Omega.{arith}
 use Rattle.ranking.proofs.rank_all.Statement.{statement}
 use Rattle.ranking.proofs.rank_all.Tie as tie
 
 abbrev Inv-loop : tie.InvT-loop
-Inv-loop s v begins ranks₀ left₀ ranks left = RankedSoFar (workflow-of s v) ranks left
+Inv-loop s v ranks₀ begins left₀ ranks left = RankedSoFar (workflow-of s v) ranks left
 
 abbrev μ-loop : tie.MeasureT-loop
-μ-loop s v begins ranks₀ left₀ ranks left = left
+μ-loop s v ranks₀ begins left₀ ranks left = left
 
 begins-all-requires : tie.Need-begins-all-requires Inv-loop μ-loop
-begins-all-requires c κs = c .before .pre
+begins-all-requires c κs = c .before .pre .0
 
 loop-holds : tie.Need-loop-holds Inv-loop μ-loop
-unfolding workflow
-loop-holds c =
-    let a = c .before .before .args in
-    ranked-none (workflow-of (a .s .now) (a .v)) (view-in-range (a .s .now) (a .v) (c .before .before .pre))
+loop-holds c = c .before .before .pre .1
 
 rank-pass-requires : tie.Need-rank-pass-requires Inv-loop μ-loop
 rank-pass-requires c κs =
-    (c .before .before .before .before .before .before .pre, (c .before .before .before .before .begins-all .ensures, c .before .before .before .loop .inv))
+    (c .before .before .before .before .before .before .pre .0, (c .before .before .before .before .begins-all .ensures, c .before .before .before .loop .inv))
 
 returns : tie.Need-returns Inv-loop μ-loop
 returns c =
-    let start = c .before .before .before .before .before .before .before .before in
+    let start = c .before .before .before .before .before .before .before .before .before in
     let a = start .args in
-    let loop-test = c .before .before .before .before .loop-test in
-    let if1 = c .if1 in
-    let turned = c .before .rank-pass .ensures in
-    ranked-not-all (workflow-of (a .s .now) (a .v)) (view-in-range (a .s .now) (a .v) (start .pre)) _ _ (turned .kept)
+    let loop-test = c .before .before .before .before .before .loop-test in
+    let if1 = c .before .if1 in
+    let turned = c .before .before .rank-pass .ensures in
+    ranked-not-all (workflow-of (a .s .now) (a .v)) (view-in-range (a .s .now) (a .v) (start .pre .0)) _ _ (turned .kept)
     (omega (arith, if1 .taken, loop-test .taken))
     (turned-still turned (if1 .taken))
 
@@ -52,7 +49,7 @@ returns-2 c =
     let a = start .args in
     let loop = c .before .loop in
     let none : loop .left ≡ 0 = omega arith in
-    ranked-all (workflow-of (a .s .now) (a .v)) (view-in-range (a .s .now) (a .v) (start .pre)) (loop .ranks) (rw none at (loop .inv))
+    ranked-all (workflow-of (a .s .now) (a .v)) (view-in-range (a .s .now) (a .v) (start .pre .0)) (loop .ranks) (rw none at (loop .inv))
 
 pub rank-all-spec : {M : Type 1} → statement M
 rank-all-spec =

@@ -7,7 +7,9 @@ use Rattle.rules.specs.Answer.{outcome-by}
 use Rattle.rules.specs.Text.{first-line, lines, text}
 use Rattle.demands.specs.Ground.GoodRequest.{outcome-of-good}
 use Rattle.lookup.specs.Lookup.{workflow-of}
-use Rattle.planner.specs.Planned.{meant-answer, rows-told}
+use Rattle.placing.specs.Arrays.{columns-first}
+use Rattle.planner.specs.declared.Planning.{Planning}
+use Rattle.planner.specs.Planned.{meant-answer, rows-told, planned-in}
 use Rattle.planner.specs.Reach.{outcome-by-within, told-due}
 use Rattle.text.specs.AtMost.{room-for-text}
 use Rattle.text.specs.TextParts.{planning-line, planned-text}
@@ -17,24 +19,31 @@ use borrow.Author.Needs.{needs}
 use Rattle.text.proofs.put_plan.Statement.{statement}
 use Rattle.text.proofs.put_plan.Tie as tie
 
+-- The answer and the four columns, as one plan.
+abbrev plan-of : tie.After-plan-good → Planning
+plan-of c =
+    let planned = c .plan-good in
+    let columns = planned .last .1 .1 .1 in
+    planned-in (columns .0) (columns .1 .0) (columns .1 .1 .0) (columns .1 .1 .1 .0) (planned .result)
+
 parts : (c : tie.After-plan-good) →
-    let p = c .plan-good .result in
-    let s = c .before .before .before .args .s .now in
+    let p = plan-of c in
+    let s = c .before .before .before .before .before .before .before .args .s .now in
     text s ≡ first-line (meant-answer (p .answer)) ++ lines (rows-told (p .answer)) (planning-line s p)
 parts c =
-    let start = c .before .before .before in
-    planned-text (start .args .s .now) (c .plan-good .result) (rw (outcome-of-good (start .args .s .now) (start .pre .0) 64) (c .plan-good .ensures))
+    let start = c .before .before .before .before .before .before .before in
+    planned-text (start .args .s .now) (plan-of c) (rw (outcome-of-good (start .args .s .now) (start .pre .0) 64) (c .plan-good .ensures))
 
 room : (c : tie.After-plan-good) →
-    let p = c .plan-good .result in
-    let a = c .before .before .before .args in
+    let p = plan-of c in
+    let a = c .before .before .before .before .before .before .before .args in
     Room (a .out .now) 0 (first-line (meant-answer (p .answer)) ++ lines (rows-told (p .answer)) (planning-line (a .s .now) p))
 room c =
-    let start = c .before .before .before in
+    let start = c .before .before .before .before .before .before .before in
     rw (parts c) at (room-for-text (start .args .s .now) (start .args .out .now) (start .pre .1))
 
 plan-good-requires : tie.Need-plan-good-requires
-plan-good-requires c κs = search needs
+plan-good-requires c κs = (c .before .before .before .before .before .before .pre .0, columns-first)
 
 put-first-line-requires : tie.Need-put-first-line-requires
 put-first-line-requires c κs = room-first _ (room (c .before))
@@ -45,12 +54,12 @@ rows-of-requires c κs = search needs
 put-rows-requires : tie.Need-put-rows-requires
 unfolding workflow
 put-rows-requires c κs =
-    let counted = c .before .before .before .before .before .before in
+    let counted = c .before .before .before .before .before in
     let told = counted .before .before .before in
     let planned = told .before .before in
-    let start = planned .before .before .before in
+    let start = planned .before .before .before .before .before .before .before in
     let W = workflow-of (start .args .s .now) (start .args .v) in
-    let told-is = told-due (outcome-by HBCS W 64) (planned .plan-good .result .answer) (planned .plan-good .ensures .answer-is) in (
+    let told-is = told-due (outcome-by HBCS W 64) (plan-of planned .answer) (planned .plan-good .ensures .answer-is) in (
       start .pre .0,
       (
         omega (arith, counted .rows-of .ensures, told-is, outcome-by-within W 64),
@@ -64,7 +73,7 @@ same-length c = search needs
 returns : tie.Need-returns
 returns c =
     let written = c .before .before in
-    let counted = written .before .before .before .before .before .before .before in
+    let counted = written .before .before .before .before .before .before in
     let told = counted .before .before .before in
     rw (parts (told .before .before))
     (wrote-then (told .put-first-line .ensures) (rw (counted .rows-of .ensures) at (written .put-rows .ensures)))
