@@ -38,7 +38,7 @@ module _ (x : ℕ) where
       rw (add-one x, le-ltb x 10 m)
       (ap (λ front. front ++ ((48 + x % 10) ∷ [])) (digits-enough x (x / 10 + 1) (x / 10) (omega arith) (omega arith)))
 
-  length-longer : 10 ≤ x → length (decimal x) ≡ length (decimal (x / 10)) + 1
+  pub length-longer : 10 ≤ x → length (decimal x) ≡ length (decimal (x / 10)) + 1
   length-longer m = ap length (decimal-longer m) ∙ length-append (decimal (x / 10)) _
 
 pub decimal-length : (k x : ℕ) → x < 10 ^ suc k → length (decimal x) ≤ suc k

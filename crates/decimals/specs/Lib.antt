@@ -1,3 +1,4 @@
 pub mod Wrote
+pub mod Backwards
 pub mod Decimals
 pub mod Fields

@@ -6,7 +6,7 @@ use native.Mathlib.Omega.{arith}
 use native.Mathlib.Nat.{zero-add}
 use native.Mathlib.Numerals.{add-one}
 use lib.ListN.{length, take, drop, set, length-append, length-take, length-drop, take-append-drop}
-use lib.Seq.{take-suc-set, drop-set-lt, drop-drop}
+use lib.Seq.{length-take-le, set-append-left, take-set-lt, take-suc-set, drop-set-lt, drop-drop}
 
 -- There is room for the bytes.
 pub record Room (out : List ℕ) (at : ℕ) (bytes : List ℕ) : Type 0 where
@@ -28,6 +28,23 @@ module _ (out : List ℕ) (at : ℕ) where
         ends = omega arith;
         front = rw add-one (take-suc-set out at b (omega (arith, room .fits)));
         rest = drop-set-lt (at + 1) out at b (omega arith);
+      }
+
+  -- A byte set just before what is written.
+  pub wrote-before :
+      (b : ℕ) {t out′ : List ℕ} {end : ℕ} → Room out at (b ∷ []) → Wrote out (at + 1) t out′ end → Wrote out at (b ∷ t) (set out′ at b) end
+  wrote-before b {t} {out′} {end} room w =
+      let first = take-set-lt (at + 1) out at b (omega arith) in
+      let long = length-take-le (at + 1) out (room .fits) in
+      record {
+        ends = omega arith;
+        front =
+            take-set-lt end out′ at b (omega arith)
+            ∙ ap (λ xs. set xs at b) (w .front)
+            ∙ set-append-left (take (at + 1) out) t at b (omega arith)
+            ∙ ap (λ xs. xs ++ t) (sym first ∙ wrote-byte b room .front)
+            ∙ append-assoc (take at out) (b ∷ []) t;
+        rest = drop-set-lt end out′ at b (omega arith) ∙ w .rest;
       }
 
 pub wrote-then :

@@ -1,5 +1,7 @@
 // Bytes and numbers in decimal, written over a lent buffer from a place on.
+ghost use mathlib.Core.Path.{_≡_};
 ghost use mathlib.Core.List.{[], _∷_};
+ghost use lib.ListN.{length};
 ghost use Rattle.rules.specs.Text.{decimal};
 ghost use Rattle.decimals.specs.Wrote.{Room, Wrote};
 ghost use Rattle.decimals.specs.Fields.{field, four-numbers};
@@ -28,16 +30,34 @@ pub fn put_bytes(out: &mut [u8], at: usize, bytes: &[u8]) -> usize
     end
 }
 
-// A number: the digits before its last, then that.
+// How many digits a number has.
+fn digit_count(x: u64) -> usize
+    ensures { λ r. ⌜ r ≡ length (decimal x) ⌝ }
+{
+    let mut count = 1;
+    let mut rest = x;
+    while 10 <= rest {
+        rest = rest / 10;
+        count += 1;
+    }
+    count
+}
+
+// A number, from its last digit to its first: `front` has those that are still to be written.
 fn put_decimal(out: &mut [u8], at: usize, x: u64) -> usize
     requires { ⌜ Room (now out) at (decimal x) ⌝ }
     ensures { λ r. ⌜ Wrote (now (out .entry)) at (decimal x) (now (out .exit)) r ⌝ }
 {
-    if x < 10 {
-        return put_byte(out, at, b'0' + x as u8);
+    let end = at + digit_count(x);
+    let mut place = end;
+    let mut front = x;
+    while 10 <= front {
+        place -= 1;
+        out[place] = b'0' + (front % 10) as u8;
+        front = front / 10;
     }
-    let end = put_decimal(out, at, x / 10);
-    put_byte(out, end, b'0' + (x % 10) as u8)
+    out[at] = b'0' + front as u8;
+    end
 }
 
 // A number and the byte that ends its field: a space, or the line feed.
