@@ -71,7 +71,7 @@ fn put_text(out: &mut [u8], request: &[u8]) -> usize
 pub fn print(request: &[u8], out: &mut [u8]) -> Printed
     ensures { λ r. ⌜ PrintedAs (now (request .entry)) (now (out .entry)) (now (out .exit)) r ⌝ }
 {
-    let mut whole = [0u8; 2_304];
+    let mut whole = [0u8; 2_145];
     let n = put_text(&mut whole, request);
     let room = out.len();
     if room < n {
