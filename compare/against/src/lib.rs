@@ -3,6 +3,7 @@
 use std::io::{self, Read, Write};
 use std::process::{Child, Command, Stdio};
 
+pub mod frames;
 pub use zabgurin::Reading;
 
 /// A part of the request.
