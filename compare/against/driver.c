@@ -31,7 +31,7 @@ int pthread_attr_setstack(union attributes *attributes, void *stack, word length
 int pthread_create(word *thread, const union attributes *attributes, void *(*run)(void *), void *argument);
 int pthread_join(word thread, void **result);
 
-enum { LISTED, LABEL_LEN, READ, LABEL, PLAN, PRINT, NOTHING, DEEPEST };
+enum { LISTED, LABEL_LEN, READ, LABEL, PLAN, PRINT, NOTHING, DEEPEST, TAKEN };
 // How the program ends where it does not end well.
 enum { CUT_INPUT = 10, BAD_INPUT, NO_OUTPUT, NO_MEMORY, WRITTEN_TO, NO_THREAD };
 // The poison before a slice, and what memory is taken in: no smaller than a page.
@@ -135,31 +135,42 @@ static word before(word buffer, word k) {
     return 0xfeed0000 + 0x10000 * buffer + k;
 }
 
-// Asks for a plan with four buffers of so many numbers, the first's in the lowest sixteen bits. The answer's words are followed by those of each buffer.
-static void plan(struct buffer *answers, const byte *slice, word length, word lengths) {
+// The buffers of a plan, and how many numbers each has.
+struct lent {
+    word *at[BUFFERS], length[BUFFERS];
+};
+
+// Lends buffers of so many numbers, the first's in the lowest sixteen bits.
+static struct lent lend(word lengths) {
     static byte *ends[BUFFERS];
-    word *lent[BUFFERS], len[BUFFERS];
+    struct lent to;
     for (word b = 0; b < BUFFERS; b++) {
-        len[b] = lengths >> 16 * b & 0xffff;
-        if (len[b] > MOST_ROWS)
+        to.length[b] = lengths >> 16 * b & 0xffff;
+        if (to.length[b] > MOST_ROWS)
             _exit(BAD_INPUT);
         if (!ends[b])
             ends[b] = end_of_room(PAGE);
-        lent[b] = (word *)ends[b] - len[b];
-        poison((byte *)lent[b]);
-        for (word k = 0; k < len[b]; k++)
-            lent[b][k] = before(b, k);
+        to.at[b] = (word *)ends[b] - to.length[b];
+        poison((byte *)to.at[b]);
+        for (word k = 0; k < to.length[b]; k++)
+            to.at[b][k] = before(b, k);
     }
-    struct zabgurin_answer answer = zabgurin_plan(slice, length, lent[0], len[0], lent[1], len[1], lent[2], len[2], lent[3], len[3]);
+    return to;
+}
+
+// Asks for a plan in buffers of so many numbers. The answer's words are followed by those of each buffer.
+static void plan(struct buffer *answers, const byte *slice, word length, word lengths) {
+    struct lent to = lend(lengths);
+    struct zabgurin_answer answer = zabgurin_plan(slice, length, to.at[0], to.length[0], to.at[1], to.length[1], to.at[2], to.length[2], to.at[3], to.length[3]);
     put(answers, &answer, sizeof answer);
     for (word b = 0; b < BUFFERS; b++) {
-        check_poison((byte *)lent[b]);
-        put(answers, lent[b], len[b] * sizeof(word));
+        check_poison((byte *)to.at[b]);
+        put(answers, to.at[b], to.length[b] * sizeof(word));
     }
 }
 
-// Asks for the text with so much room for it. The answer's word is followed by the bytes of the room, each as a word.
-static void print(struct buffer *answers, const byte *slice, word length, word room) {
+// Lends so much room for a text.
+static byte *lend_room(word room) {
     static byte *end;
     if (room > PAGE - POISON)
         _exit(BAD_INPUT);
@@ -167,7 +178,12 @@ static void print(struct buffer *answers, const byte *slice, word length, word r
         end = end_of_room(PAGE);
     byte *text = end - room;
     poison(text);
-    memset(text, '#', room);
+    return memset(text, '#', room);
+}
+
+// Asks for the text with so much room for it. The answer's word is followed by the bytes of the room, each as a word.
+static void print(struct buffer *answers, const byte *slice, word length, word room) {
+    byte *text = lend_room(room);
     word answer = zabgurin_print(slice, length, text, room);
     put(answers, &answer, sizeof answer);
     check_poison(text);
@@ -189,15 +205,81 @@ static void nothing(struct buffer *answers) {
     put(answers, lengths, sizeof lengths);
 }
 
-// The stack that all runs on, written full of one byte at first, with memory below it that nothing can reach.
-static byte *stack;
+// The stack that all runs on, with memory below it that nothing can reach. It is full of paint at first.
+enum { PAINT = 0x5a };
+byte *stack;
 
 // How many bytes of the stack were ever used: those of the thread itself and of this program are among them.
 static word deepest(void) {
+    static word most;
     word unused = 0;
-    while (unused < STACK && stack[unused] == 0x5a)
+    while (unused < STACK && stack[unused] == PAINT)
         unused++;
-    return STACK - unused;
+    if (STACK - unused > most)
+        most = STACK - unused;
+    return most;
+}
+
+// A call whose stack is measured goes by way of `measured`, which notes where the return address stands, paints all of the stack below it, and goes on to the
+// function with the arguments as they came. The compiler sees nothing of that, so what is named there is not static.
+byte paint;
+byte *return_address;
+void (*function)(void);
+void measured(void);
+__asm__(".pushsection .text\n"
+        "measured:\n"
+        "    mov %rsp, return_address(%rip)\n"
+        "    mov %rdi, %r10\n"
+        "    mov %rcx, %r11\n"
+        "    mov stack(%rip), %rdi\n"
+        "    mov %rsp, %rcx\n"
+        "    sub %rdi, %rcx\n"
+        "    mov paint(%rip), %al\n"
+        "    rep stosb\n"
+        "    mov %r10, %rdi\n"
+        "    mov %r11, %rcx\n"
+        "    jmp *function(%rip)\n"
+        ".popsection\n");
+#define MEASURED(name) (function = (void (*)(void))name, (__typeof__(&name))measured)
+
+// Makes a call of the kind that a question has, and gives the first word of its answer; a label's length. A plan has four buffers of the same length.
+static word call(const byte *slice, word length, word kind, word argument) {
+    if (kind == LISTED)
+        return MEASURED(zabgurin_listed)(argument);
+    if (kind == LABEL_LEN)
+        return MEASURED(zabgurin_label_len)(slice, length, argument);
+    if (kind == READ)
+        return MEASURED(zabgurin_read)(slice, length).number;
+    if (kind == LABEL)
+        return MEASURED(zabgurin_label)(slice, length, argument).length;
+    if (kind == PRINT)
+        return MEASURED(zabgurin_print)(slice, length, lend_room(argument), argument);
+    if (kind != PLAN)
+        _exit(BAD_INPUT);
+    struct lent to = lend(argument * 0x0001000100010001);
+    return MEASURED(zabgurin_plan)(slice, length, to.at[0], to.length[0], to.at[1], to.length[1], to.at[2], to.length[2], to.at[3], to.length[3]).number;
+}
+
+// How many bytes of stack a call takes: from the lowest that it changes up to its return address. That is counted, and so is what memcpy and memset of the C
+// library take; the caller's frame is not, nor the arguments that stand there. The first call does not count: in it the dynamic linker may have to look for
+// memcpy and memset. The two after it have different paints, so that each byte written is changed in one of them. Nothing is called between a call and the look
+// at its stack. The first word of the call's answer follows.
+static void taken(struct buffer *answers, const byte *slice, word length, word kind, word argument) {
+    static const byte paints[] = {PAINT, (byte)~PAINT, PAINT};
+    word most = 0, first = 0;
+    deepest();
+    for (word k = 0; k < sizeof paints; k++) {
+        paint = paints[k];
+        first = call(slice, length, kind, argument);
+        const byte *lowest = stack;
+        while (lowest < return_address && *lowest == paint)
+            lowest++;
+        word bytes = return_address + sizeof(word) - lowest;
+        if (k > 0 && bytes > most)
+            most = bytes;
+    }
+    put(answers, &most, sizeof most);
+    put(answers, &first, sizeof first);
 }
 
 // Answers one question about a slice that stands in its place.
@@ -223,6 +305,9 @@ static void answer(struct buffer *answers, const byte *slice, word length, word 
     } else if (kind == DEEPEST) {
         word used = deepest();
         put(answers, &used, sizeof used);
+    } else if (kind == TAKEN) {
+        // The argument has the call's kind in its lowest byte, and the call's argument above it.
+        taken(answers, slice, length, argument & 0xff, argument >> 8);
     } else {
         _exit(BAD_INPUT);
     }
@@ -263,7 +348,7 @@ int main(void) {
     byte *room = mmap(0, PAGE + STACK, 1 | 2, 2 | 32, -1, 0);
     if (room == (byte *)-1 || mprotect(room, PAGE, 0) != 0)
         _exit(NO_MEMORY);
-    stack = memset(room + PAGE, 0x5a, STACK);
+    stack = memset(room + PAGE, PAINT, STACK);
     union attributes attributes;
     word thread;
     if (pthread_attr_init(&attributes) != 0 || pthread_attr_setstack(&attributes, stack, STACK) != 0 || pthread_create(&thread, &attributes, serve, 0) != 0 ||

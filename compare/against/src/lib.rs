@@ -3,6 +3,7 @@
 use std::io::{self, Read, Write};
 use std::process::{Child, Command, Stdio};
 
+pub mod frames;
 pub use zabgurin::Reading;
 
 /// A part of the request.
@@ -72,6 +73,45 @@ const PLAN: u64 = 4;
 const PRINT: u64 = 5;
 const NOTHING: u64 = 6;
 const DEEPEST: u64 = 7;
+const TAKEN: u64 = 8;
+
+/// A call of the library whose stack is measured: with a byte, a place, a task, so many rows in each buffer, so much
+/// room for the text.
+#[derive(Clone, Copy, Debug, PartialEq, Eq)]
+pub enum Call {
+    Listed(u8),
+    LabelLen(usize),
+    Read,
+    Label(usize),
+    Plan(usize),
+    Print(usize),
+}
+
+impl Call {
+    /// The name of the function.
+    pub fn name(self) -> &'static str {
+        match self {
+            Call::Listed(_) => "zabgurin_listed",
+            Call::LabelLen(_) => "zabgurin_label_len",
+            Call::Read => "zabgurin_read",
+            Call::Label(_) => "zabgurin_label",
+            Call::Plan(_) => "zabgurin_plan",
+            Call::Print(_) => "zabgurin_print",
+        }
+    }
+
+    fn question(self) -> (u64, u64) {
+        let (kind, argument) = match self {
+            Call::Listed(b) => (LISTED, b.into()),
+            Call::LabelLen(at) => (LABEL_LEN, at),
+            Call::Read => (READ, 0),
+            Call::Label(task) => (LABEL, task),
+            Call::Plan(rows) => (PLAN, rows),
+            Call::Print(room) => (PRINT, room),
+        };
+        (TAKEN, kind | (argument as u64) << 8)
+    }
+}
 
 impl Driver {
     pub fn start() -> Driver {
@@ -165,6 +205,14 @@ impl Driver {
     pub fn nothing(&mut self) -> (Answer, Reading, [usize; 4]) {
         let mut answers = self.ask(&[(&[], vec![(NOTHING, 0)])]);
         (answers.answer(), answers.reading(), [0; 4].map(|_| answers.size()))
+    }
+
+    /// For a request and calls with it: how many bytes of stack each call takes, and the first word of its answer. The
+    /// call's return address is counted, and what memcpy and memset of the C library take.
+    pub fn taken(&mut self, request: &[u8], calls: &[Call]) -> Vec<(usize, u64)> {
+        let questions = calls.iter().map(|call| call.question()).collect();
+        let mut answers = self.ask(&[(request, questions)]);
+        calls.iter().map(|_| (answers.size(), answers.word())).collect()
     }
 
     /// The most bytes of stack that were in use at any time, those of the thread itself and of the driver included.

@@ -126,25 +126,6 @@ fn every_number_of_rows() {
     assert!(met.contains_key(&0) && met.contains_key(&7), "{met:?}");
 }
 
-/// The driver runs on a thread with 32 KiB of stack, and the largest requests leave some of it.
-#[test]
-fn a_small_stack_will_do() {
-    let mut driver = Driver::start();
-    let mut random = Random(0x57ac_5eed_0000_0001);
-    let mut largest: Vec<Vec<u8>> = Vec::new();
-    for graph in GRAPHS {
-        for budget in BUDGETS {
-            let shape = (graph, NUMBERS[0], budget, DEADLINES[0]);
-            largest.push(shaped(&mut random, (64, 16), shape).bytes());
-        }
-    }
-    let idle = driver.deepest();
-    driver.plan(&largest.iter().map(|request| (&request[..], [64; 4])).collect::<Vec<_>>());
-    let deepest = driver.deepest();
-    println!("{deepest} bytes of stack, {idle} of them before the first plan");
-    assert!(deepest < 32 << 10, "{deepest} bytes of stack");
-}
-
 /// The text, with room for all of it and some bytes more, and with one byte too little.
 #[test]
 fn texts() {
