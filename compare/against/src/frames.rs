@@ -6,6 +6,10 @@ use std::path::Path;
 /// What a call puts on the stack.
 const RETURN_ADDRESS: usize = 8;
 
+/// How much more than its frame a function may take off the stack pointer: arguments that it hands over there, which the
+/// compiler's sizes leave out.
+const ARGUMENTS: usize = 64;
+
 /// How far below its frame a function that calls nothing may write. The compiler's sizes of frames leave it out.
 const RED_ZONE: usize = 128;
 
@@ -14,7 +18,7 @@ pub struct Library(BTreeMap<String, Function>);
 #[derive(Default)]
 struct Function {
     exported: bool,
-    /// What it takes off the stack pointer.
+    /// What it takes off the stack pointer: its frame, and the arguments that it hands over on the stack.
     frame: usize,
     uses_red_zone: bool,
     calls: BTreeSet<String>,
@@ -47,7 +51,8 @@ impl Library {
     }
 
     /// From the sizes of the frames and the assembly text. Panics where a frame has no fixed size, where the text takes
-    /// something else off the stack pointer than the frame's size, and where it does not say what is called.
+    /// less off the stack pointer than the frame's size or more than arguments need, and where it does not say what is
+    /// called.
     pub fn new(sizes: &str, text: &str) -> Library {
         let mut functions: BTreeMap<String, Function> = BTreeMap::new();
         let (mut exported, mut current) = (BTreeSet::new(), String::new());
@@ -70,8 +75,11 @@ impl Library {
         }
         let mut sizes: BTreeMap<String, usize> = sizes.lines().map(size).collect();
         for (name, function) in &mut functions {
-            let (frame, size) = (function.frame, sizes.remove(name));
-            assert_eq!(Some(frame), size, "off the stack pointer, and the frame's size: {name}");
+            let (taken, size) = (function.frame, sizes.remove(name).unwrap_or(usize::MAX));
+            assert!(
+                size <= taken && taken <= size + ARGUMENTS,
+                "{taken} off the stack pointer, and the frame's size is {size}: {name}"
+            );
             function.exported = exported.contains(name);
         }
         assert!(sizes.is_empty(), "frames of no function: {sizes:?}");

@@ -28,6 +28,13 @@ fn a_chain_has_frames_and_return_addresses() {
     assert!(library.exported().eq(["a", "b::c", "end"]));
 }
 
+#[test]
+fn arguments_on_the_stack_are_counted() {
+    let library =
+        library(&[("a", &["pushq\t$1", "pushq\t$2", "callq\tb", "addq\t$16, %rsp"]), ("b", &[])]);
+    assert_eq!(library.deepest("a").bytes, 8 + 24 + 16 + (8 + 24));
+}
+
 /// It has the stack of the function that jumps there.
 #[test]
 fn a_jump_to_a_function_leaves_no_frame() {
@@ -111,9 +118,15 @@ fn a_stack_pointer_that_moves_by_a_register_is_found() {
 }
 
 #[test]
-#[should_panic(expected = "off the stack pointer, and the frame's size: a")]
-fn a_frame_that_is_not_the_texts_is_found() {
-    library(&[("a", &["pushq\t$1"])]);
+#[should_panic(expected = "24 off the stack pointer, and the frame's size is 32: a")]
+fn a_frame_that_the_text_does_not_take_is_found() {
+    Library::new("module.bc:a\t32\tstatic", "\t.type\ta,@function\na:\n\tsubq\t$24, %rsp\n");
+}
+
+#[test]
+#[should_panic(expected = "96 off the stack pointer, and the frame's size is 24: a")]
+fn more_than_a_frame_and_arguments_is_found() {
+    library(&[("a", &["pushq\t$1"; 9])]);
 }
 
 #[test]
