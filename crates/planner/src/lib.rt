@@ -2,12 +2,11 @@
 ghost use mathlib.Core.Path.{_≡_};
 ghost use mathlib.Core.List.{[]};
 ghost use Rattle.rules.specs.Method.{HBCS};
-ghost use Rattle.rules.specs.Answer.{too-late, placed-outcome, outcome-by, outcome};
+ghost use Rattle.rules.specs.Answer.{too-late, outcome-by, outcome};
 ghost use Rattle.reader.specs.Meaning.{ViewOf, meant-deadline};
 ghost use Rattle.lookup.specs.Lookup.{workflow-of};
-ghost use Rattle.placing.specs.Placed.{RanksOf, Columns, all-rows, PlacedAs};
+ghost use Rattle.placing.specs.Placed.{RanksOf, Columns};
 ghost use Rattle.planner.specs.Planned.{PlanOf, planned-in, outcome-within, rows-told};
-use placing::Placing;
 use reader::Deadline;
 use reader::Reading;
 use reader::View;
@@ -45,39 +44,7 @@ fn too_late(deadline: Deadline, length: u64) -> bool
     }
 }
 
-// What a placing of all tasks is answered with: 11, and the rows are taken back; or the plan.
-fn answer_placed(
-    s: &[u8],
-    v: View,
-    p: Placing,
-    processors: &mut [u64; 64],
-    starts: &mut [u64; 64],
-    finishes: &mut [u64; 64],
-    costs: &mut [u64; 64],
-) -> Answer
-    requires { ⌜ PlacedAs (workflow-of (now s) v) (now processors) (now starts) (now finishes) (now costs) p ⌝ }
-    ensures { λ r. ⌜ PlanOf (placed-outcome (workflow-of (now (s .entry)) v) (all-rows (workflow-of (now (s .entry)) v))) (planned-in (now (processors .exit)) (now (starts .exit)) (now (finishes .exit)) (now (costs .exit)) r) ⌝ }
-{
-    let deadline = v.deadline;
-    if too_late(deadline, p.length) {
-        *processors = [0u64; 64];
-        *starts = [0u64; 64];
-        *finishes = [0u64; 64];
-        *costs = [0u64; 64];
-        return Answer::Refused {
-            number: 11,
-            place: p.length,
-        };
-    }
-    Answer::Planned {
-        n: v.tasks as u64,
-        length: p.length,
-        cost: p.cost,
-        left: p.left,
-    }
-}
-
-// Check 9, then placing.
+// Check 9, then placing, then check 11, which takes the rows back.
 fn plan_ranked(
     s: &[u8],
     v: View,
@@ -100,7 +67,23 @@ fn plan_ranked(
         };
     }
     let p = placing::place(s, v, ranks, cheapest, processors, starts, finishes, costs);
-    answer_placed(s, v, p, processors, starts, finishes, costs)
+    let deadline = v.deadline;
+    if too_late(deadline, p.length) {
+        *processors = [0u64; 64];
+        *starts = [0u64; 64];
+        *finishes = [0u64; 64];
+        *costs = [0u64; 64];
+        return Answer::Refused {
+            number: 11,
+            place: p.length,
+        };
+    }
+    Answer::Planned {
+        n: v.tasks as u64,
+        length: p.length,
+        cost: p.cost,
+        left: p.left,
+    }
 }
 
 // The plan of a good request, by its view, with so many rows lent: checks 7 and 8, then the rest. Its rows stand in four lent arrays, which have none at first;
