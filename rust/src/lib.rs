@@ -1,5 +1,6 @@
 //! Plans for workflows on rented machines: a request of bytes is answered with a plan, a machine and a start for every task, or with one numbered refusal
 //! and its place. The functions that do it are proved; this is a thin and safe way to call them. Each is defined for every slice, so nothing has to be checked first.
+//! How much stack a call takes stands in include/zabgurin.h; `plan` takes 2 KiB more. Only `plan` and `text` use the heap, for what they return.
 //!
 //! ```
 //! let request = std::fs::read("samples/s28.request")?;
