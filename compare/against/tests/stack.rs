@@ -45,8 +45,8 @@ fn document(name: &str) -> String {
     fs::read_to_string(path).unwrap_or_else(|error| panic!("{name}: {error}"))
 }
 
-/// Requests of 64 tasks and 16 processors: of every shape, the dense ones with 512 edges; and two cycles through all
-/// tasks, in which each waits for the one before it and for the eight before it, which makes 512 edges.
+/// Requests of 64 tasks and 16 processors: of every shape, the dense ones with 512 edges; and two with cycles through
+/// all tasks. In the first each task waits for the one before it, in the second for the eight before it: 512 edges.
 fn largest(random: &mut Random) -> Vec<Draft> {
     let mut drawn = |shape| shaped(random, (MOST_TASKS, 16), shape);
     let mut drafts = Vec::new();

@@ -8,7 +8,7 @@ use Rattle.rules.specs.Rows.{Row, Placed}
 use Rattle.placing.specs.declared.Placing.{Placing}
 use Rattle.placing.specs.Placed.{Column, Columns, PlacedAs}
 
-pub column-settled : {field : Row → ℕ} {rows : List Placed} {xs ys : List ℕ} → Column field rows xs → Column field rows ys → xs ≡ ys
+column-settled : {field : Row → ℕ} {rows : List Placed} {xs ys : List ℕ} → Column field rows xs → Column field rows ys → xs ≡ ys
 column-settled {xs = xs} {ys = ys} a b =
     ext-getD 0 xs ys (a .size ∙ sym (b .size)) (λ i l. a .holds i ∙ sym (b .holds i))
 

@@ -1,7 +1,7 @@
 -- Two plans that a contract allows are one plan: the contracts settle the answer, and every number of the four arrays.
 use mathlib.Core.Path.{_≡_, refl, sym, ap, _∙_}
 use Rattle.rules.specs.Answer as rules
-use Rattle.placing.specs.Settled.{column-settled}
+use Rattle.placing.specs.Settled.{columns-settled}
 use Rattle.planner.specs.declared.Answer.{Answer}
 use Rattle.planner.specs.declared.Answer.the-variants.{Planned, Refused}
 use Rattle.planner.specs.declared.Planning.{Planning}
@@ -23,8 +23,5 @@ answer-settled a b same = sym (answer-again a) ∙ ap answer-for same ∙ answer
 pub plan-settled : (o : rules.Outcome) (a b : Planning) → PlanOf o a → PlanOf o b → a ≡ b
 plan-settled o a b one other =
     let answers = answer-settled (a .answer) (b .answer) (one .answer-is ∙ sym (other .answer-is)) in
-    let processors = column-settled (one .columns .processors-hold) (other .columns .processors-hold) in
-    let starts = column-settled (one .columns .starts-hold) (other .columns .starts-hold) in
-    let finishes = column-settled (one .columns .finishes-hold) (other .columns .finishes-hold) in
-    let costs = column-settled (one .columns .costs-hold) (other .columns .costs-hold) in
+    let (processors, starts, finishes, costs) = columns-settled (one .columns) (other .columns) in
     λ t. record { answer = answers t; processors = processors t; starts = starts t; finishes = finishes t; costs = costs t }

@@ -1,6 +1,5 @@
 -- The ranks known are right; a pass that adds none, while some are not known, has found a cycle.
 use mathlib.Core.Path.{_≡_}
-use Rattle.rules.specs.Workflow.{workflow}
 use Rattle.lookup.specs.Lookup.{workflow-of}
 use Rattle.lookup.specs.Views.{view-in-range}
 use Rattle.laws.specs.Turned.{turned-still, turned-less}
