@@ -3,7 +3,7 @@
 
    The library is for x86-64 Linux. Link target/staticlib/libexports.a, which `rt staticlib exports` builds. It allocates nothing, keeps nothing between
    calls and calls nothing but memcpy and memset; any thread may call any function at any time. No function of it calls itself. A call takes at most so much
-   stack, its return address included:
+   stack, from its return address down; the arguments that stand in the caller's frame are not counted:
 
     zabgurin_plan       4,984 bytes
     zabgurin_print      7,208 bytes
