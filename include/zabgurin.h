@@ -3,7 +3,8 @@
 
    The library is for x86-64 Linux. Link target/staticlib/libexports.a, which `rt staticlib exports` builds. It allocates nothing, keeps nothing between
    calls and calls nothing but memcpy and memset; any thread may call any function at any time. No function of it calls itself. A call takes at most so much
-   stack, from its return address down; the arguments that stand in the caller's frame are not counted:
+   stack, from its return address down; the arguments that stand in the caller's frame are not counted. That is added up from the compiled frames and measured,
+   not proved, and holds for the library as this version of the kit compiles it:
 
     zabgurin_plan       4,984 bytes
     zabgurin_print      7,208 bytes
@@ -18,7 +19,7 @@
 
    A slice is a pointer and the number of its elements. The pointer may be NULL where that number is 0. A request is only read, and only during the call. The
    buffers of one call must not overlap each other or the request. Every function is defined for every request, of any bytes and any length, and for buffers
-   of any length, 0 too: nothing has to be checked first. What each promises is proved; docs/PROMISES.md says where. */
+   of any length, 0 too: nothing has to be checked first. What each answers and writes is proved; docs/PROMISES.md says where. */
 #ifndef ZABGURIN_H
 #define ZABGURIN_H
 
