@@ -31,12 +31,10 @@ fn check(draft: &Draft, answer: Answer, rows: &[Row]) {
             let apart = row.finish <= other.start || other.finish <= row.start;
             assert!(row.processor != other.processor || apart);
         }
-        // The data is there, and a task starts late only for its data or
-        // behind another task on its processor.
-        let arrivals: Vec<u64> = arrivals(draft, rows, i, row.processor).collect();
-        assert!(arrivals.iter().all(|&arrival| arrival <= row.start));
-        let behind = |other: &Row| other.processor == row.processor && other.finish == row.start;
-        assert!(row.start == 0 || arrivals.contains(&row.start) || rows.iter().any(behind));
+        // The data is there, and no earlier minute has room beside the other
+        // rows: those placed later have only taken more of them.
+        let others = (0..rows.len()).filter(|&k| k != i).map(|k| &rows[k]);
+        assert_eq!(row.start, first_with_room(draft, rows, i, j, others));
     }
     assert_eq!(total, rows.iter().map(|row| row.cost).sum::<u64>());
     assert_eq!(total + left, u64::from(draft.budget));
@@ -45,18 +43,33 @@ fn check(draft: &Draft, answer: Answer, rows: &[Row]) {
 }
 
 /// When what this task waits for is there, if it runs on this processor.
-fn arrivals<'a>(
-    draft: &'a Draft,
-    rows: &'a [Row],
-    task: usize,
-    processor: u64,
-) -> impl Iterator<Item = u64> + 'a {
-    let entering = draft.edges.iter().filter(move |edge| usize::from(edge.1) == task);
-    entering.map(move |&(from, _, transfer)| {
+fn ready(draft: &Draft, rows: &[Row], task: usize, processor: usize) -> u64 {
+    let entering = draft.edges.iter().filter(|edge| usize::from(edge.1) == task);
+    let arrivals = entering.map(|&(from, _, transfer)| {
         let before = rows[usize::from(from)];
-        let same = before.processor == processor;
+        let same = before.processor as usize == processor;
         before.finish + if same { 0 } else { u64::from(transfer) }
-    })
+    });
+    arrivals.max().unwrap_or(0)
+}
+
+/// The least minute, not before its data is ready, at which a task's minutes
+/// overlap none of those rows that are on this processor. It is the one when
+/// the data is ready or one at which a row ends, and all of these are tried.
+fn first_with_room<'a>(
+    draft: &Draft,
+    rows: &[Row],
+    task: usize,
+    processor: usize,
+    others: impl Iterator<Item = &'a Row>,
+) -> u64 {
+    let there: Vec<&Row> = others.filter(|row| row.processor as usize == processor).collect();
+    let ready = ready(draft, rows, task, processor);
+    let minutes = u64::from(draft.tasks[task].1[processor]);
+    let overlaps = |start: u64, row: &Row| start.max(row.start) < (start + minutes).min(row.finish);
+    let ends = there.iter().map(|row| row.finish).filter(|&end| end > ready);
+    let starts = ends.chain([ready]);
+    starts.filter(|&start| !there.iter().any(|row| overlaps(start, row))).min().unwrap()
 }
 
 /// Whether this task has a path back to itself and no lower task has: the
@@ -156,12 +169,11 @@ fn placed_again(draft: &Draft, rows: &[Row]) -> usize {
     let mut order: Vec<usize> = (0..n).collect();
     order.sort_by_key(|&i| (Reverse(ranks[i]), i));
     let (mut rb, mut rcb) = (u64::from(draft.budget), cheapest_total(draft));
-    let mut free_from = vec![0; m];
     let mut kept_from_best = 0;
-    for i in order {
+    for (placed, &i) in order.iter().enumerate() {
         let finish = |j: usize| {
-            let ready = arrivals(draft, rows, i, j as u64).max().unwrap_or(0);
-            ready.max(free_from[j]) + u64::from(draft.tasks[i].1[j])
+            let before = order[..placed].iter().map(|&k| &rows[k]);
+            first_with_room(draft, rows, i, j, before) + u64::from(draft.tasks[i].1[j])
         };
         let of = |j: usize| cost(draft, i, j);
         let best = (0..m).min_by_key(|&j| (finish(j), of(j))).unwrap();
@@ -172,7 +184,7 @@ fn placed_again(draft: &Draft, rows: &[Row]) -> usize {
         assert!(may_be_taken(cheapest), "task {i} of {draft:?}");
         assert!(may_be_taken(taken), "task {i} of {draft:?}");
         kept_from_best += usize::from(!may_be_taken(best));
-        free_from[taken] = rows[i].finish;
+        assert_eq!(rows[i].finish, finish(taken));
         rb -= of(taken);
     }
     kept_from_best

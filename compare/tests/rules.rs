@@ -104,22 +104,130 @@ fn tie_of_ranks_goes_to_the_lower_number() {
 // ---- Start ----
 
 #[test]
-fn start_is_never_in_an_earlier_gap() {
-    // S(24) leaves processor 1 idle until 13. A last task, costing 3 on either,
-    // starts there at 15 behind `right` and not at 0.
-    let mut draft = sample(27);
-    draft.tasks.push(("tiny".to_string(), vec![3, 1]));
-    let rows = vec![(0, 0, 10, 10), (0, 10, 18, 8), (1, 13, 15, 6), (1, 15, 16, 3)];
-    assert_eq!(planned(&draft), ((18, 27, 0), rows));
-}
-
-#[test]
 fn data_is_ready_with_the_last_predecessor() {
     // Everything is free. Tasks 0 and 1 run side by side until 6 and 5; task 2
     // has its data at 6 + 4 on processor 1 and at 5 + 2, after 6, on 0.
     let minutes: [&[u16]; 3] = [&[6, 9], &[5, 5], &[1, 1]];
     let draft = Draft::new(0, &[0, 0], &minutes, &[(0, 2, 4), (1, 2, 2)]);
     assert_eq!(planned(&draft), ((8, 0, 0), vec![(0, 0, 6, 0), (1, 0, 5, 0), (0, 7, 8, 0)]));
+}
+
+// ---- Gaps ----
+
+/// Everything is free. Task 0 runs on processor 0 until 2; task 1, quick only
+/// on processor 1, waits there for its data and runs for 4 minutes from
+/// 2 + transfer on. The other tasks are quick on processor 1 as well.
+fn with_a_gap(transfer: u16, others: &[&[u16]], edges: &[(u8, u8, u16)]) -> Draft {
+    let minutes = [&[&[2, 20][..], &[20, 4]], others].concat();
+    Draft::new(0, &[0, 0], &minutes, &[&[(0, 1, transfer)], edges].concat())
+}
+
+#[test]
+fn gap_of_exactly_the_minutes_is_used() {
+    // Processor 1 is idle until 5. Behind task 1, task 2 would end at 14.
+    let rows = vec![(0, 0, 2, 0), (1, 5, 9, 0), (1, 0, 5, 0)];
+    assert_eq!(planned(&with_a_gap(3, &[&[15, 5]], &[])), ((9, 0, 0), rows));
+}
+
+#[test]
+fn gap_one_minute_short_is_not_used() {
+    // The gap ends at 4, or task 2 takes 6 minutes.
+    let rows = vec![(0, 0, 2, 0), (1, 4, 8, 0), (1, 8, 13, 0)];
+    assert_eq!(planned(&with_a_gap(2, &[&[15, 5]], &[])), ((13, 0, 0), rows));
+    let rows = vec![(0, 0, 2, 0), (1, 5, 9, 0), (1, 9, 15, 0)];
+    assert_eq!(planned(&with_a_gap(3, &[&[15, 6]], &[])), ((15, 0, 0), rows));
+}
+
+#[test]
+fn gap_before_the_first_row() {
+    let rows = vec![(0, 0, 2, 0), (1, 5, 9, 0), (1, 0, 3, 0)];
+    assert_eq!(planned(&with_a_gap(3, &[&[15, 3]], &[])), ((9, 0, 0), rows));
+    // S(24) leaves processor 1 idle until 13. A last task, costing 3 on either,
+    // starts there at 0 and not at 15 behind `right`.
+    let mut draft = sample(27);
+    draft.tasks.push(("tiny".to_string(), vec![3, 1]));
+    let rows = vec![(0, 0, 10, 10), (0, 10, 18, 8), (1, 13, 15, 6), (1, 0, 1, 3)];
+    assert_eq!(planned(&draft), ((18, 27, 0), rows));
+}
+
+#[test]
+fn gap_between_two_rows() {
+    // R 58, 24, 28, 19: task 2 goes before task 1, and processor 1 is idle
+    // from 3 to 8. Behind task 1, task 3 would end at 16.
+    let rows = vec![(0, 0, 2, 0), (1, 8, 12, 0), (1, 0, 3, 0), (1, 3, 7, 0)];
+    let draft = with_a_gap(6, &[&[25, 3], &[15, 4]], &[]);
+    assert_eq!(ranks_of(&draft), [58, 24, 28, 19]);
+    assert_eq!(planned(&draft), ((12, 0, 0), rows));
+    // The gap to the minute, and one minute short.
+    let rows = vec![(0, 0, 2, 0), (1, 8, 12, 0), (1, 0, 3, 0), (1, 3, 8, 0)];
+    assert_eq!(planned(&with_a_gap(6, &[&[25, 3], &[18, 5]], &[])), ((12, 0, 0), rows));
+    let rows = vec![(0, 0, 2, 0), (1, 8, 12, 0), (1, 0, 3, 0), (1, 12, 18, 0)];
+    assert_eq!(planned(&with_a_gap(6, &[&[25, 3], &[17, 6]], &[])), ((18, 0, 0), rows));
+}
+
+#[test]
+fn tie_of_gaps_goes_to_the_earlier() {
+    // Task 2 has its data on processor 1 at 14, which is idle until 5 and from
+    // 9 to 14: five minutes each.
+    let rows = vec![(0, 0, 2, 0), (1, 5, 9, 0), (1, 14, 17, 0), (1, 0, 3, 0)];
+    let draft = with_a_gap(3, &[&[20, 3], &[19, 3]], &[(0, 2, 12)]);
+    assert_eq!(planned(&draft), ((17, 0, 0), rows));
+    // With the first gap of two minutes, the second is taken.
+    let rows = vec![(0, 0, 2, 0), (1, 2, 6, 0), (1, 14, 17, 0), (1, 6, 9, 0)];
+    let draft = with_a_gap(0, &[&[20, 3], &[19, 3]], &[(0, 2, 12)]);
+    assert_eq!(planned(&draft), ((17, 0, 0), rows));
+}
+
+#[test]
+fn gap_is_used_from_ready_on() {
+    // Processor 1 is idle until 11, and task 2 has its data there at 5.
+    let rows = vec![(0, 0, 2, 0), (1, 11, 15, 0), (1, 5, 9, 0)];
+    assert_eq!(planned(&with_a_gap(9, &[&[19, 4]], &[(0, 2, 3)])), ((15, 0, 0), rows));
+    // Ready at 2 in a gap until 5: room for 3 minutes. Ready at 3: too little.
+    let rows = vec![(0, 0, 2, 0), (1, 5, 9, 0), (1, 2, 5, 0)];
+    assert_eq!(planned(&with_a_gap(3, &[&[19, 3]], &[(0, 2, 0)])), ((9, 0, 0), rows));
+    let rows = vec![(0, 0, 2, 0), (1, 5, 9, 0), (1, 9, 12, 0)];
+    assert_eq!(planned(&with_a_gap(3, &[&[19, 3]], &[(0, 2, 1)])), ((12, 0, 0), rows));
+}
+
+#[test]
+fn gap_that_opens_after_ready() {
+    // Task 3 has its data on processor 1 at 5, which is idle from 6 to 11.
+    let rows = vec![(0, 0, 2, 0), (1, 11, 15, 0), (1, 0, 6, 0), (1, 6, 10, 0)];
+    let draft = with_a_gap(9, &[&[25, 6], &[19, 4]], &[(0, 3, 3)]);
+    assert_eq!(planned(&draft), ((15, 0, 0), rows));
+}
+
+#[test]
+fn gap_before_ready_is_not_used() {
+    // Processor 1 is idle until 5, but task 2 has its data there at 8.
+    let rows = vec![(0, 0, 2, 0), (1, 5, 9, 0), (1, 9, 12, 0)];
+    assert_eq!(planned(&with_a_gap(3, &[&[19, 3]], &[(0, 2, 6)])), ((12, 0, 0), rows));
+}
+
+#[test]
+fn what_is_left_of_a_gap() {
+    // Task 3 goes first and leaves 3 to 5 for task 2, to the minute.
+    let rows = vec![(0, 0, 2, 0), (1, 5, 9, 0), (1, 3, 5, 0), (1, 0, 3, 0)];
+    assert_eq!(planned(&with_a_gap(3, &[&[15, 2], &[15, 3]], &[])), ((9, 0, 0), rows));
+    // Task 2 leaves nothing for task 3.
+    let rows = vec![(0, 0, 2, 0), (1, 5, 9, 0), (1, 0, 5, 0), (1, 9, 14, 0)];
+    assert_eq!(planned(&with_a_gap(3, &[&[15, 5], &[15, 5]], &[])), ((14, 0, 0), rows));
+    // Ready at 4, task 2 leaves 0 to 4 before it, and 8 to 11 behind it for a
+    // task that has its data at 7.
+    let rows = vec![(0, 0, 2, 0), (1, 11, 15, 0), (1, 4, 8, 0), (1, 0, 4, 0)];
+    let draft = with_a_gap(9, &[&[19, 4], &[18, 4]], &[(0, 2, 2)]);
+    assert_eq!(planned(&draft), ((15, 0, 0), rows));
+    let rows = vec![(0, 0, 2, 0), (1, 11, 15, 0), (1, 4, 8, 0), (1, 8, 11, 0)];
+    let draft = with_a_gap(9, &[&[19, 4], &[19, 3]], &[(0, 2, 2), (0, 3, 5)]);
+    assert_eq!(planned(&draft), ((15, 0, 0), rows));
+}
+
+#[test]
+fn gap_changes_the_choice() {
+    // Behind task 1, task 2 would end at 14, and at 11 on processor 0.
+    let rows = vec![(0, 0, 2, 0), (1, 5, 9, 0), (1, 0, 5, 0)];
+    assert_eq!(planned(&with_a_gap(3, &[&[9, 5]], &[])), ((9, 0, 0), rows));
 }
 
 // ---- Choice ----
