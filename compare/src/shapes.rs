@@ -1,8 +1,10 @@
 //! Requests for planners: workflows of every shape, with numbers, budgets and deadlines that bring out ties and limits.
 
+use std::cmp::Reverse;
+
 use crate::build::Draft;
 use crate::random::{cheapest_total, Random};
-use crate::{plan, Answer, Row};
+use crate::{plan, ranks, read, Answer, Row};
 
 /// How the edges lie. Their tasks are numbered in any order.
 #[derive(Clone, Copy, Debug, PartialEq, Eq)]
@@ -37,6 +39,9 @@ pub enum Numbers {
     Free,
     /// The lowest and the highest values.
     Ends,
+    /// Small numbers, and each task quick on one processor: the edges leave processors idle, and later tasks fit into
+    /// such a gap to the minute, or are one minute too long for it.
+    Gaps,
 }
 
 #[derive(Clone, Copy, Debug, PartialEq, Eq)]
@@ -70,17 +75,61 @@ pub const GRAPHS: [Graph; 7] = [
     Graph::Loose,
     Graph::Cycle,
 ];
-pub const NUMBERS: [Numbers; 6] =
-    [Numbers::Any, Numbers::Few, Numbers::Equal, Numbers::EqualCosts, Numbers::Free, Numbers::Ends];
+pub const NUMBERS: [Numbers; 7] = [
+    Numbers::Any,
+    Numbers::Few,
+    Numbers::Equal,
+    Numbers::EqualCosts,
+    Numbers::Free,
+    Numbers::Ends,
+    Numbers::Gaps,
+];
 pub const BUDGETS: [Budget; 4] = [Budget::Plenty, Budget::Cheapest, Budget::TooLow, Budget::Tight];
 pub const DEADLINES: [Deadline; 4] =
     [Deadline::None, Deadline::Length, Deadline::TooEarly, Deadline::Any];
+
+pub type Shape = (Graph, Numbers, Budget, Deadline);
+
+/// The shapes one after the other: graphs change first, then numbers, budgets and deadlines. After the last comes the
+/// first again.
+pub fn shape(k: usize) -> Shape {
+    let (graph, k) = (GRAPHS[k % GRAPHS.len()], k / GRAPHS.len());
+    let (numbers, k) = (NUMBERS[k % NUMBERS.len()], k / NUMBERS.len());
+    let (budget, k) = (BUDGETS[k % BUDGETS.len()], k / BUDGETS.len());
+    (graph, numbers, budget, DEADLINES[k % DEADLINES.len()])
+}
+
+/// Good requests of every shape, one after the other; sizes up to the limits, half of them small.
+pub fn of_every_shape(seed: u64, count: usize) -> impl Iterator<Item = Draft> {
+    let mut random = Random(seed);
+    (0..count).map(move |k| {
+        let (most, widest) = if random.one_in(2) { (8, 4) } else { (64, 16) };
+        let n = random.often_an_end(1, most) as usize;
+        let m = random.often_an_end(1, widest) as usize;
+        shaped(&mut random, (n, m), shape(k))
+    })
+}
+
+/// Whether the request has a plan in which some task starts before one that was placed earlier on its processor.
+pub fn fills_a_gap(request: &[u8]) -> bool {
+    let mut rows = [Row::default(); 64];
+    let Answer::Planned { n, .. } = plan(request, &mut rows) else { return false };
+    let ranks = read(request).ok().and_then(|workflow| ranks(&workflow)).expect("it has a plan");
+    let placed = |i: usize| (Reverse(ranks[i]), i);
+    let in_a_gap = |i: usize| {
+        (0..n as usize).any(|k| {
+            let earlier = placed(k) < placed(i) && rows[k].processor == rows[i].processor;
+            earlier && rows[i].start < rows[k].start
+        })
+    };
+    (0..n as usize).any(in_a_gap)
+}
 
 /// A good request of so many tasks and processors.
 pub fn shaped(
     random: &mut Random,
     (n, m): (usize, usize),
-    (graph, numbers, budget, deadline): (Graph, Numbers, Budget, Deadline),
+    (graph, numbers, budget, deadline): Shape,
 ) -> Draft {
     let mut draft = Draft::new(20_000_000, &[], &[], &[]);
     draft.prices = prices(random, m, numbers);
@@ -93,6 +142,7 @@ pub fn shaped(
             Numbers::Few => random.one_of(&few),
             Numbers::Equal => few[1],
             Numbers::Ends => random.one_of(&[0, 1_000]),
+            Numbers::Gaps => random.within(0, 6) as u16,
             _ => random.often_an_end(0, 1_000) as u16,
         };
         draft.edges.push((from, to, transfer));
@@ -131,6 +181,7 @@ fn prices(random: &mut Random, m: usize, numbers: Numbers) -> Vec<u8> {
         Numbers::EqualCosts => random.one_of(&[1, 2, 4, 5, 10, 20]),
         Numbers::Free => 0,
         Numbers::Ends => random.one_of(&[0, 1, 100]),
+        Numbers::Gaps => random.one_of(&[1, 1, 2]),
     };
     (0..m).map(|_| price(random)).collect()
 }
@@ -138,14 +189,17 @@ fn prices(random: &mut Random, m: usize, numbers: Numbers) -> Vec<u8> {
 /// The minutes of a task.
 fn minutes(random: &mut Random, prices: &[u8], numbers: Numbers) -> Vec<u16> {
     let cost = 20 * random.within(1, 100) as u16;
-    let minutes = |&price: &u8| match numbers {
+    let quick_on = random.within(0, prices.len() as u64 - 1) as usize;
+    let minutes = |(j, &price): (usize, &u8)| match numbers {
         Numbers::Any | Numbers::Free => random.often_an_end(1, 2_000) as u16,
         Numbers::Few => random.one_of(&[10, 20, 20]),
         Numbers::Equal => 30,
         Numbers::EqualCosts => cost / u16::from(price),
         Numbers::Ends => random.one_of(&[1, 2_000]),
+        Numbers::Gaps if j == quick_on => random.within(1, 4) as u16,
+        Numbers::Gaps => random.within(5, 12) as u16,
     };
-    prices.iter().map(minutes).collect()
+    prices.iter().enumerate().map(minutes).collect()
 }
 
 /// The ends of the edges, rising.

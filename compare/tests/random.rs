@@ -5,7 +5,7 @@ use std::cmp::Reverse;
 
 use compare::build::Draft;
 use compare::random::{cheapest_total, cost, damage, draft, Limits, Random, FULL, SMALL};
-use compare::shapes::{shaped, Budget, Deadline, GRAPHS, NUMBERS};
+use compare::shapes::{fills_a_gap, of_every_shape, shaped, Budget, Deadline, GRAPHS, NUMBERS};
 use compare::{label, plan, ranks, read, text, Answer, Row, REFUSALS};
 
 /// What must hold of any answer to a good request with enough rows.
@@ -131,6 +131,24 @@ fn facts_of_small_plans() {
 #[test]
 fn facts_of_full_plans() {
     check_many(&mut Random(0xD1B5_4A32_D192_ED03), &FULL, 3_000);
+}
+
+/// Requests of every shape, as the proved code is asked: in one plan of six some
+/// task is in a gap.
+#[test]
+fn facts_of_plans_of_every_shape() {
+    let mut met = Met::default();
+    let mut gaps = 0;
+    for draft in of_every_shape(0x600D_5EED_0000_0003, 7_840) {
+        let mut rows = [Row::default(); 64];
+        let request = draft.bytes();
+        let answer = plan(&request, &mut rows);
+        check(&draft, answer, &rows);
+        met.note(answer);
+        gaps += u64::from(fills_a_gap(&request));
+    }
+    met.at_least(200, &[0, 8, 9, 11]);
+    assert!(gaps >= met.0[0] / 6, "{gaps} of {}", met.0[0]);
 }
 
 /// "Once the cheapest total fits, I believe the cheapest processor can always
