@@ -3,7 +3,7 @@
 use against::{columns_before, Columns, Driver};
 use compare::build::sample;
 use compare::random::{Damage, Random};
-use compare::shapes::{shaped, BUDGETS, DEADLINES, GRAPHS, NUMBERS};
+use compare::shapes::{fills_a_gap, of_every_shape};
 use compare::{Row, REFUSALS};
 use std::collections::BTreeMap;
 
@@ -66,21 +66,9 @@ fn lent(random: &mut Random, n: usize) -> [usize; 4] {
     lent
 }
 
-/// Good requests of every shape, one after the other; sizes up to the limits, half of them small.
+/// Good requests of every shape, and how many tasks each has.
 fn good(seed: u64, count: usize) -> impl Iterator<Item = (Vec<u8>, usize)> {
-    let mut random = Random(seed);
-    (0..count).map(move |k| {
-        let shape = (
-            GRAPHS[k % GRAPHS.len()],
-            NUMBERS[k / 7 % NUMBERS.len()],
-            BUDGETS[k / 42 % BUDGETS.len()],
-            DEADLINES[k / 168 % DEADLINES.len()],
-        );
-        let (most, widest) = if random.one_in(2) { (8, 4) } else { (64, 16) };
-        let n = random.often_an_end(1, most) as usize;
-        let m = random.often_an_end(1, widest) as usize;
-        (shaped(&mut random, (n, m), shape).bytes(), n)
-    })
+    of_every_shape(seed, count).map(|draft| (draft.bytes(), draft.tasks.len()))
 }
 
 #[test]
@@ -92,18 +80,22 @@ fn the_sample() {
 #[test]
 fn good_requests_of_every_shape() {
     let mut random = Random(0x600d_5eed_0000_0001);
-    let met = agree(good(0x600d_5eed_0000_0002, 24_192).map(|(request, n)| {
+    let mut gaps = 0;
+    let met = agree(good(0x600d_5eed_0000_0002, 28_224).map(|(request, n)| {
         let lent = lent(&mut random, n);
+        gaps += usize::from(lent.iter().all(|&rows| rows >= n) && fills_a_gap(&request));
         (request, lent)
     }));
     each_often(&met, &[0, 7, 8, 9, 11], 1_000);
+    println!("{gaps} plans have a task in a gap");
+    assert!(gaps >= 2_000, "{gaps} plans have a task in a gap");
 }
 
 #[test]
 fn damaged_requests() {
     let mut random = Random(0xda4a_6ed0_0000_0001);
     let met =
-        agree(good(0xda4a_6ed0_0000_0002, 24_192).enumerate().map(|(k, (mut request, n))| {
+        agree(good(0xda4a_6ed0_0000_0002, 28_224).enumerate().map(|(k, (mut request, n))| {
             Damage::ALL[k % Damage::ALL.len()].to(&mut random, &mut request);
             let lent = lent(&mut random, n);
             (request, lent)
@@ -114,7 +106,7 @@ fn damaged_requests() {
 #[test]
 fn every_number_of_rows() {
     let mut random = Random(0x40e5_5eed_0000_0001);
-    let requests: Vec<_> = good(0x40e5_5eed_0000_0002, 168).collect();
+    let requests: Vec<_> = good(0x40e5_5eed_0000_0002, 196).collect();
     let met = agree(requests.into_iter().flat_map(|(request, n)| {
         let longest = random.within(0, 70) as usize;
         (0..71).map(move |rows| {
@@ -132,7 +124,7 @@ fn texts() {
     let mut driver = Driver::start();
     let mut random = Random(0x7e87_5eed_0000_0001);
     let mut requests: Vec<Vec<u8>> =
-        good(0x7e87_5eed_0000_0002, 4_032).map(|(request, _)| request).collect();
+        good(0x7e87_5eed_0000_0002, 4_704).map(|(request, _)| request).collect();
     for (k, request) in requests.iter_mut().enumerate().filter(|(k, _)| k % 3 == 0) {
         Damage::ALL[k / 3 % Damage::ALL.len()].to(&mut random, request);
     }

@@ -1,6 +1,6 @@
 //! The Rust wrapper against the independent program: plans, texts, labels and readings of good and damaged requests.
 use compare::random::{Damage, Random};
-use compare::shapes::{shaped, BUDGETS, DEADLINES, GRAPHS, NUMBERS};
+use compare::shapes::{shape, shaped};
 use compare::{Answer, Row};
 use zabgurin::{Refusal, Summary};
 
@@ -42,10 +42,8 @@ fn agree(request: &[u8]) {
 fn good_and_damaged_requests() {
     let mut random = Random(0x57a9_9e45_0000_0001);
     for k in 0..6_000 {
-        let shape =
-            (GRAPHS[k % 7], NUMBERS[k / 7 % 6], BUDGETS[k / 42 % 4], DEADLINES[k / 168 % 4]);
         let (n, m) = (random.often_an_end(1, 64) as usize, random.often_an_end(1, 16) as usize);
-        let mut request = shaped(&mut random, (n, m), shape).bytes();
+        let mut request = shaped(&mut random, (n, m), shape(k)).bytes();
         if k % 2 == 0 {
             Damage::ALL[k / 2 % Damage::ALL.len()].to(&mut random, &mut request);
         }
