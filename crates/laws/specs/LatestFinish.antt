@@ -27,7 +27,7 @@ finish-in-length (p ∷ rows) i =
 abbrev pub taken-up : Row → Interval
 taken-up r = record { begin = r .start; end = r .finish }
 
-busy-in-length : (rows : List Placed) (j : ℕ) (v : Interval) → List·Memᴰ v (busy rows j) → v .end ≤ length-of rows
+pub busy-in-length : (rows : List Placed) (j : ℕ) (v : Interval) → List·Memᴰ v (busy rows j) → v .end ≤ length-of rows
 unfolding busy length-of
 busy-in-length [] j v m = absurd (List·Memᴰ·not-nil m)
 busy-in-length (p ∷ rows) j v m = go (eqb (p .row .processor) j) (busy-in-length rows j v) m
@@ -41,7 +41,7 @@ busy-in-length (p ∷ rows) j v m = go (eqb (p .row .processor) j) (busy-in-leng
     go false before m = omega (arith, before m)
 
 -- A task whose data is ready by c starts by c, where all end by c.
-pub start-in-length :
+start-in-length :
     (rows : List Placed) (j ready minutes c : ℕ) → ready ≤ c → length-of rows ≤ c → start-on (busy rows j) ready minutes ≤ c
 start-in-length rows j ready minutes c by-then ended =
     start-at-most (busy rows j) ready minutes c by-then (λ v m. omega (arith, busy-in-length rows j v m))

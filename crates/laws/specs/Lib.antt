@@ -18,7 +18,9 @@ pub mod NextTask
 pub mod Ranks
 pub mod Stores
 pub mod Bounds
+pub mod Free
 pub mod StartLaws
+pub mod SameStart
 pub mod LatestFinish
 pub mod Filled
 pub mod FilledLaws

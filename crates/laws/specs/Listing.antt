@@ -1,7 +1,9 @@
 -- The laws of `listing`, read off `Fold`: its length, the value at each place, and what is done to each value.
 use Prim.Native.Nat.{ℕ, zero, suc, _+_, _<_}
 use mathlib.Core.Path.{_≡_, refl, sym, ap, _∙_}
-use mathlib.Core.List.{List, [], _∷_, _++_, map, map-append}
+use mathlib.Core.List.{List, [], _∷_, _++_, map, map-append, List·Memᴰ, List·Memᴰ·head, List·Memᴰ·not-nil, List·Memᴰ·eq-of-singleton}
+use mathlib.Core.List.{List·Memᴰ·append-cases, Memᴰ·append-left, Memᴰ·append-right}
+use mathlib.Core.Logic.{⊎-elim}
 use native.Mathlib.Omega.{arith}
 use native.Mathlib.Numerals.{add-one}
 use lib.ListN.{length, getD, take, length-append, List·getD-append}
@@ -45,3 +47,19 @@ module _ {ℓ} {A : Type ℓ} (f : ℕ → A) where
       below-next (λ n. getD (with-last (listing k f) (f k)) n d ≡ f n) k (getD-at (listing k f) (f k) [] d k (length-listing k))
       (λ n m. List·getD-append (listing k f) (f k ∷ []) d n (rw (length-listing k) m) ∙ getD-listing k d n m)
       i l
+
+  -- Each value stands in it, and nothing else does.
+  pub stands-in-listing : (k i : ℕ) → i < k → List·Memᴰ (f i) (listing k f)
+  unfolding listing
+  stands-in-listing zero i l = absurd (omega arith)
+  stands-in-listing (suc k) i l =
+      below-next (λ n. List·Memᴰ (f n) (with-last (listing k f) (f k))) k (Memᴰ·append-right (listing k f) (List·Memᴰ·head refl))
+      (λ n m. Memᴰ·append-left (f k ∷ []) (stands-in-listing k n m))
+      i l
+
+  pub in-listing : (k : ℕ) {x : A} → List·Memᴰ x (listing k f) → (i : ℕ) × (i < k) × (x ≡ f i)
+  unfolding listing
+  in-listing zero m = absurd (List·Memᴰ·not-nil m)
+  in-listing (suc k) m =
+      ⊎-elim (λ h. let (i, l, e) = in-listing k h in (i, omega arith, e)) (λ h. (k, omega arith, List·Memᴰ·eq-of-singleton h))
+      (List·Memᴰ·append-cases (listing k f) m)

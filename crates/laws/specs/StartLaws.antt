@@ -1,26 +1,138 @@
--- The laws of the start on a processor, which are all that is used of it: not before the data is ready; it overlaps nothing that the
--- processor is busy with; multiplied with its arguments; at most any bound of those; and what a processor may be busy with for the same start.
-use Prim.Native.Nat.{ℕ, _+_, _*_, _≤_, max}
-use mathlib.Core.Path.{_≡_, sym, ap}
+-- The laws of the start on a processor, which are all that is used of it, with those of `SameStart`. It is the least minute from ready on at which the
+-- task overlaps nothing that the processor is busy with, and no other minute is; it is at most any bound of ready and of what is busy; and it is
+-- multiplied with its arguments.
+use Prim.Native.Nat.{ℕ, zero, suc, _+_, _*_, _-_, _≤_, max, min}
+use mathlib.Core.Path.{_≡_, refl, sym, ap, ap₂, _∙_}
+use mathlib.Core.Bool.{true, false, not, _&&_, true≢false}
 use mathlib.Core.List.{List, [], _∷_, map, List·Memᴰ, List·Memᴰ·not-nil, List·Memᴰ·cases-cons, List·Memᴰ·head, List·Memᴰ·tail}
-use mathlib.Core.Logic.{_⊎_, inl, ⊎-elim}
-use native.Mathlib.Nat.{mul-zero}
+use mathlib.Core.Logic.{_⊎_, inl, inr, ⊎-elim}
+use native.Mathlib.Decide.{ℕ-discrete}
+use native.Mathlib.Nat.{mul-zero, mul-add}
 use native.Mathlib.Omega.{arith}
-use Rattle.rules.specs.Start.{Interval, latest-end, start-on}
-use Rattle.laws.specs.Numbers.{max-multiplied}
+use Rattle.rules.specs.Start.{Interval, minutes-from, Free, Starts, overlap, free, latest-end, if-free, least-end, start-on}
+use Rattle.laws.specs.Tests.{cond-either, cond-mapped, ltb-multiplied}
+use Rattle.laws.specs.Numbers.{min-either, max-multiplied, min-multiplied}
+use Rattle.laws.specs.Free.{free-told, free-tested, latest-end-bounds, latest-end-at-most}
 
-latest-end-bounds : (vs : List Interval) {v : Interval} → List·Memᴰ v vs → v .end ≤ latest-end vs
-unfolding latest-end
-latest-end-bounds [] m = absurd (List·Memᴰ·not-nil m)
-latest-end-bounds (u ∷ vs) {v} m =
-    ⊎-elim (λ (e : v ≡ u). omega (arith, ap (λ (w : Interval). w .end) e)) (λ m′. omega (arith, latest-end-bounds vs m′)) (List·Memᴰ·cases-cons m)
+module _ (busy : List Interval) (ready minutes : ℕ) where
+  -- A minute at which the task can start.
+  record Possible (t : ℕ) : Type 0 where
+    from-ready : ready ≤ t
+    at-it : Free busy minutes t
 
-latest-end-at-most : (c : ℕ) (vs : List Interval) → ((v : Interval) → List·Memᴰ v vs → v .end ≤ c) → latest-end vs ≤ c
-unfolding latest-end
-latest-end-at-most c [] each = omega arith
-latest-end-at-most c (v ∷ vs) each =
-    omega (arith, latest-end-at-most c vs (λ u m. each u (List·Memᴰ·tail m)), each v (List·Memᴰ·head (λ t. v)))
+  module _ (t otherwise : ℕ) where
+    if-free-either :
+        (P : ℕ → Type 0) → (Free busy minutes t → P (min t otherwise)) → ((Free busy minutes t → ⊥) → P otherwise)
+        → P (if-free busy minutes t otherwise)
+    unfolding if-free
+    if-free-either P one other =
+        cond-either P (free busy minutes t) _ _ (λ e. one (free-told busy minutes t e))
+        (λ e. other (λ f. true≢false (sym (free-tested busy minutes t f) ∙ e)))
 
+    if-free-possible : ready ≤ t → Possible otherwise → Possible (if-free busy minutes t otherwise)
+    if-free-possible from-ready other =
+        if-free-either Possible
+        (λ f. ⊎-elim (λ q. rw q (record { from-ready = from-ready; at-it = f })) (λ q. rw q other) (min-either t otherwise))
+        (λ _. other)
+
+    if-free-at-most : if-free busy minutes t otherwise ≤ otherwise
+    if-free-at-most = if-free-either (λ x. x ≤ otherwise) (λ f. omega arith) (λ _. omega arith)
+
+    if-free-least : Free busy minutes t → if-free busy minutes t otherwise ≤ t
+    if-free-least f = if-free-either (λ x. x ≤ t) (λ _. omega arith) (λ none. absurd (none f))
+
+  least-end-possible : (some : List Interval) → Possible (least-end busy ready minutes some)
+  unfolding least-end
+  least-end-possible [] = record { from-ready = omega arith; at-it = λ v m o. omega (arith, latest-end-bounds busy m) }
+  least-end-possible (v ∷ some) = if-free-possible (max ready (v .end)) (least-end busy ready minutes some) (omega arith) (least-end-possible some)
+
+  least-end-at-most : (some : List Interval) → least-end busy ready minutes some ≤ max ready (latest-end busy)
+  unfolding least-end
+  least-end-at-most [] = omega arith
+  least-end-at-most (v ∷ some) =
+      omega (arith, if-free-at-most (max ready (v .end)) (least-end busy ready minutes some), least-end-at-most some)
+
+  least-end-least :
+      (some : List Interval) {v : Interval} → List·Memᴰ v some → Free busy minutes (max ready (v .end))
+      → least-end busy ready minutes some ≤ max ready (v .end)
+  unfolding least-end
+  least-end-least [] m f = absurd (List·Memᴰ·not-nil m)
+  least-end-least (u ∷ some) {v} m f =
+      ⊎-elim
+      (λ (q : v ≡ u). rw q (if-free-least (max ready (u .end)) (least-end busy ready minutes some) (rw q at f)))
+      (λ m′. omega (arith, if-free-at-most (max ready (u .end)) (least-end busy ready minutes some), least-end-least some m′ f))
+      (List·Memᴰ·cases-cons m)
+
+  start-possible : Possible (start-on busy ready minutes)
+  unfolding start-on
+  start-possible = if-free-possible ready (least-end busy ready minutes busy) (omega arith) (least-end-possible busy)
+
+  -- Something of what is busy ends at u, or nothing does.
+  ends-at : (vs : List Interval) (u : ℕ) → ((v : Interval) × List·Memᴰ v vs × (v .end ≡ u)) ⊎ ((v : Interval) → List·Memᴰ v vs → v .end ≡ u → ⊥)
+  ends-at [] u = inr (λ v m e. List·Memᴰ·not-nil m)
+  ends-at (w ∷ vs) u = go (ℕ-discrete (w .end) u) (ends-at vs u)
+    where
+      go :
+          Dec (w .end ≡ u) → ((v : Interval) × List·Memᴰ v vs × (v .end ≡ u)) ⊎ ((v : Interval) → List·Memᴰ v vs → v .end ≡ u → ⊥)
+          → ((v : Interval) × List·Memᴰ v (w ∷ vs) × (v .end ≡ u)) ⊎ ((v : Interval) → List·Memᴰ v (w ∷ vs) → v .end ≡ u → ⊥)
+      go (yes e) rest = inl (w, List·Memᴰ·head refl, e)
+      go (no n) (inl (v, m, e)) = inl (v, List·Memᴰ·tail m, e)
+      go (no n) (inr none) =
+          inr (λ v m e.
+          ⊎-elim (λ (q : v ≡ w). n (sym (ap (λ (x : Interval). x .end) q) ∙ e)) (λ m′. none v m′ e) (List·Memᴰ·cases-cons m))
+
+  -- Where nothing ends at a minute at which the task can start, it can start a minute before.
+  free-before : (u : ℕ) → ((v : Interval) → List·Memᴰ v busy → v .end ≡ u + 1 → ⊥) → Free busy minutes (u + 1) → Free busy minutes u
+  free-before u none f v m o = f v m (omega (arith, none v m))
+
+  start-least : (later u : ℕ) → u ≡ ready + later → Free busy minutes u → start-on busy ready minutes ≤ u
+  unfolding start-on
+  start-least zero u e f = let at-ready : u ≡ ready = omega arith in rw at-ready (if-free-least ready (least-end busy ready minutes busy) (rw at-ready at f))
+  start-least (suc later) u e f = ⊎-elim at-an-end (before (start-least later (ready + later) refl)) (ends-at busy u)
+    where
+      at-an-end : (v : Interval) × List·Memᴰ v busy × (v .end ≡ u) → start-on busy ready minutes ≤ u
+      at-an-end (v, m, ends) =
+          let there : max ready (v .end) ≡ u = omega arith in
+          omega (arith, if-free-at-most ready (least-end busy ready minutes busy), least-end-least busy m (rw there f))
+
+      before :
+          (Free busy minutes (ready + later) → start-on busy ready minutes ≤ ready + later)
+          → ((v : Interval) → List·Memᴰ v busy → v .end ≡ u → ⊥) → start-on busy ready minutes ≤ u
+      before earlier none =
+          let next : u ≡ ready + later + 1 = omega arith in
+          omega (arith, earlier (free-before (ready + later) (rw next at none) (rw next at f)))
+
+  -- The minute that is computed is the one that the rules speak of, and no other is.
+  pub start-is : Starts busy ready minutes (start-on busy ready minutes)
+  start-is =
+      record {
+        not-before-ready = start-possible .from-ready;
+        overlaps-nothing = start-possible .at-it;
+        none-earlier = λ u from-ready f. start-least (u - ready) u (omega arith) f;
+      }
+
+  pub start-not-before-ready : ready ≤ start-on busy ready minutes
+  start-not-before-ready = start-is .not-before-ready
+
+  pub starts-there : {t : ℕ} → Starts busy ready minutes t → t ≡ start-on busy ready minutes
+  starts-there {t} there =
+      omega (
+        arith,
+        there .none-earlier _ (start-is .not-before-ready) (start-is .overlaps-nothing),
+        start-is .none-earlier t (there .not-before-ready) (there .overlaps-nothing),
+      )
+
+  pub start-at-most : (c : ℕ) → ready ≤ c → ((v : Interval) → List·Memᴰ v busy → v .end ≤ c) → start-on busy ready minutes ≤ c
+  unfolding start-on
+  start-at-most c h each =
+      omega (
+        arith,
+        if-free-at-most ready (least-end busy ready minutes busy),
+        least-end-at-most busy,
+        latest-end-at-most c busy each,
+      )
+
+-- All times multiplied by a number of at least 1.
 unfoldable pub multiplied-interval : ℕ → Interval → Interval
 multiplied-interval a v = record { begin = a * v .begin; end = a * v .end }
 
@@ -29,56 +141,52 @@ unfolding latest-end multiplied-interval
 latest-end-multiplied a [] = sym (mul-zero a)
 latest-end-multiplied a (v ∷ vs) = rw (latest-end-multiplied a vs) (max-multiplied a (latest-end vs) (v .end))
 
-module _ (vs : List Interval) (ready minutes : ℕ) where
-  pub start-not-before-ready : ready ≤ start-on vs ready minutes
-  unfolding start-on
-  start-not-before-ready = omega arith
+module _ (a : ℕ) (pa : 1 ≤ a) (minutes : ℕ) where
+  overlap-multiplied :
+      (t : ℕ) (v : Interval) → overlap (minutes-from (a * t) (a * minutes)) (multiplied-interval a v) ≡ overlap (minutes-from t minutes) v
+  unfolding overlap multiplied-interval
+  overlap-multiplied t v =
+      rw (← mul-add a t minutes, max-multiplied a t (v .begin), min-multiplied a (t + minutes) (v .end))
+      (ltb-multiplied a pa (max t (v .begin)) (min (t + minutes) (v .end)))
 
-  -- What is busy ends by the start, or begins once the task has finished.
-  pub start-overlaps-nothing :
-      (v : Interval) → List·Memᴰ v vs → (v .end ≤ start-on vs ready minutes) ⊎ (start-on vs ready minutes + minutes ≤ v .begin)
-  unfolding start-on
-  start-overlaps-nothing v m = inl (omega (arith, latest-end-bounds vs m))
+  free-multiplied : (t : ℕ) (busy : List Interval) → free (map (multiplied-interval a) busy) (a * minutes) (a * t) ≡ free busy minutes t
+  unfolding free
+  free-multiplied t [] = refl
+  free-multiplied t (v ∷ busy) = ap₂ (λ meets rest. not meets && rest) (overlap-multiplied t v) (free-multiplied t busy)
 
-  pub start-at-most : (c : ℕ) → ready ≤ c → ((v : Interval) → List·Memᴰ v vs → v .end ≤ c) → start-on vs ready minutes ≤ c
-  unfolding start-on
-  start-at-most c h each = omega (arith, latest-end-at-most c vs each)
+  if-free-multiplied :
+      (busy : List Interval) (t otherwise : ℕ)
+      → if-free (map (multiplied-interval a) busy) (a * minutes) (a * t) (a * otherwise) ≡ a * if-free busy minutes t otherwise
+  unfolding if-free
+  if-free-multiplied busy t otherwise =
+      rw (free-multiplied t busy, min-multiplied a t otherwise) (sym (cond-mapped (λ x. a * x) (free busy minutes t) (min t otherwise) otherwise))
 
-  pub start-on-multiplied : (a : ℕ) → 1 ≤ a → start-on (map (multiplied-interval a) vs) (a * ready) (a * minutes) ≡ a * start-on vs ready minutes
-  unfolding start-on
-  start-on-multiplied a pa = rw (latest-end-multiplied a vs) (max-multiplied a ready (latest-end vs))
+  least-end-multiplied :
+      (busy : List Interval) (ready : ℕ) (some : List Interval)
+      → least-end (map (multiplied-interval a) busy) (a * ready) (a * minutes) (map (multiplied-interval a) some) ≡ a * least-end busy ready minutes some
+  unfolding least-end multiplied-interval
+  least-end-multiplied busy ready [] = rw (latest-end-multiplied a busy) (max-multiplied a ready (latest-end busy))
+  least-end-multiplied busy ready (v ∷ some) =
+      rw (max-multiplied a ready (v .end), least-end-multiplied busy ready some)
+      (if-free-multiplied busy (max ready (v .end)) (least-end busy ready minutes some))
 
--- For every ready minute and minutes a task starts at the same minute.
-abbrev pub SameStart : List Interval → List Interval → Type 0
-SameStart one other = (ready minutes : ℕ) → start-on one ready minutes ≡ start-on other ready minutes
-
--- Only which intervals there are counts.
-pub same-intervals-same-start :
-    (one other : List Interval) → ((v : Interval) → List·Memᴰ v one → List·Memᴰ v other) → ((v : Interval) → List·Memᴰ v other → List·Memᴰ v one)
-    → SameStart one other
+pub start-on-multiplied :
+    (vs : List Interval) (ready minutes a : ℕ) → 1 ≤ a
+    → start-on (map (multiplied-interval a) vs) (a * ready) (a * minutes) ≡ a * start-on vs ready minutes
 unfolding start-on
-same-intervals-same-start one other to from ready minutes =
-    omega (
-      arith,
-      latest-end-at-most (latest-end other) one (λ v m. latest-end-bounds other (to v m)),
-      latest-end-at-most (latest-end one) other (λ v m. latest-end-bounds one (from v m)),
-    )
+start-on-multiplied vs ready minutes a pa =
+    rw (least-end-multiplied a pa minutes vs ready vs) (if-free-multiplied a pa minutes vs ready (least-end vs ready minutes vs))
 
--- All that this rule has to know of a processor: busy from minute 0 on, up to one minute.
-abbrev pub up-to : ℕ → List Interval
-up-to until = record { begin = 0; end = until } ∷ []
+-- At 0 nothing overlaps any more, so that what was not free is: a task of 2 minutes from minute 0 on, beside a row of 2. The start is 0 on both sides all the
+-- same, since a task of no minutes can start at once; so the law would hold there too, but not for its reason.
+pub free-at-0-alone :
+    let row : Interval = record { begin = 0; end = 2 } in
+    (free (row ∷ []) 2 0 ≡ false) × (free (multiplied-interval 0 row ∷ []) (0 * 2) (0 * 0) ≡ true)
+unfolding free overlap multiplied-interval
+free-at-0-alone = (refl, refl)
 
-pub start-up-to : (until ready minutes : ℕ) → start-on (up-to until) ready minutes ≡ max ready until
-unfolding start-on latest-end
-start-up-to until ready minutes = omega arith
-
-pub up-to-0-as-nothing : SameStart (up-to 0) []
-unfolding start-on latest-end
-up-to-0-as-nothing ready minutes = omega arith
-
--- A task that starts where the rule says ends after all that was there, so with it no other starts before its finish.
-pub up-to-finish-as-all :
-    (vs : List Interval) (ready minutes : ℕ) {start finish : ℕ} → start ≡ start-on vs ready minutes → finish ≡ start + minutes
-    → SameStart (up-to finish) (record { begin = start; end = finish } ∷ vs)
-unfolding start-on latest-end
-up-to-finish-as-all vs ready minutes at-start at-finish later long = omega arith
+pub start-multiplied-by-0 :
+    (vs : List Interval) (ready minutes : ℕ) → start-on (map (multiplied-interval 0) vs) (0 * ready) (0 * minutes) ≡ 0 * start-on vs ready minutes
+start-multiplied-by-0 vs ready minutes =
+    sym (starts-there (map (multiplied-interval 0) vs) (0 * ready) (0 * minutes)
+    (record { not-before-ready = omega arith; overlaps-nothing = λ v m o. omega arith; none-earlier = λ u h f. omega arith }))

@@ -1,5 +1,6 @@
 -- Cases beside the starred ones, where slips that look right would change the answer: one list, one theorem.
 use Prim.Native.Nat.{ℕ, _*_}
+use Prim.Native.String.{String}
 use mathlib.Core.Path.{_≡_, refl}
 use mathlib.Core.List.{List, [], _∷_, _++_}
 use lib.ListN.{take}
@@ -59,6 +60,31 @@ deadlines before after =
     ++ W-record 0 1 3
     ++ bytes "Z"
 
+-- Two processors for nothing. Task 0 takes 2 minutes on the first, and task 1 takes 4 on the second and waits there for its data; what comes before it
+-- there has a gap to start in. Other tasks, with these minutes on the second, are slow on the first.
+beside : ℕ → String → ℕ → ℕ → List ℕ
+beside task label slow minutes = T-record task label ++ W-record task 0 slow ++ W-record task 1 minutes
+
+waits : ℕ → List ℕ → List ℕ
+waits tasks rest =
+    H-record tasks 2 0 ++ P-record 0 0 ++ P-record 1 0 ++ beside 0 "one     " 2 20 ++ beside 1 "two     " 20 4 ++ rest ++ bytes "Z"
+
+-- A task of 5 minutes, and this transfer before task 1: in the gap before the first row they are just as long, or one minute short.
+gap-of : ℕ → List ℕ
+gap-of transfer = waits 3 (beside 2 "three   " 15 5 ++ E-record 0 1 transfer)
+
+-- Behind a row of these minutes, which begins at 0, and before task 1: a gap between two rows.
+between-rows : ℕ → List ℕ → List ℕ
+between-rows minutes edges = waits 4 (beside 2 "three   " 25 minutes ++ beside 3 "four    " 19 4 ++ edges)
+
+-- Two gaps of 5 minutes, and a task of 3.
+two-gaps : List ℕ
+two-gaps = waits 4 (beside 2 "three   " 20 3 ++ beside 3 "four    " 19 3 ++ E-record 0 1 3 ++ E-record 0 2 12)
+
+-- Its data is there at minute 8, when the gap before task 1 is past.
+ready-past-the-gap : List ℕ
+ready-past-the-gap = waits 3 (beside 2 "three   " 19 3 ++ E-record 0 1 3 ++ E-record 0 2 6)
+
 pub corners : List Case
 corners =
     planned-case (near-means 1) (planned 2 1 2 8) (row 1 0 1 1 ∷ row 0 0 1 1 ∷ [])
@@ -72,11 +98,22 @@ corners =
     ∷ refused-case (two-tasks (E-record 0 1 5 ++ E-record 0 0 5)) 3 45
     ∷ refused-case (two-tasks (E-record 1 0 5 ++ E-record 0 9 5)) 3 45
     ∷ refused-case (two-tasks (E-record 0 1 1_001)) 4 40
+    ∷ planned-case (gap-of 3) (planned 3 9 0 0) (row 0 0 2 0 ∷ row 1 5 9 0 ∷ row 1 0 5 0 ∷ [])
+    ∷ planned-case (gap-of 2) (planned 3 13 0 0) (row 0 0 2 0 ∷ row 1 4 8 0 ∷ row 1 8 13 0 ∷ [])
+    ∷ planned-case (gap-of 9) (planned 3 15 0 0) (row 0 0 2 0 ∷ row 1 11 15 0 ∷ row 1 0 5 0 ∷ [])
+    ∷ planned-case (between-rows 3 (E-record 0 1 6)) (planned 4 12 0 0) (row 0 0 2 0 ∷ row 1 8 12 0 ∷ row 1 0 3 0 ∷ row 1 3 7 0 ∷ [])
+    ∷ planned-case (between-rows 3 (E-record 0 1 9 ++ E-record 0 3 3)) (planned 4 15 0 0)
+    (row 0 0 2 0 ∷ row 1 11 15 0 ∷ row 1 0 3 0 ∷ row 1 5 9 0 ∷ [])
+    ∷ planned-case (between-rows 6 (E-record 0 1 9 ++ E-record 0 3 3)) (planned 4 15 0 0)
+    (row 0 0 2 0 ∷ row 1 11 15 0 ∷ row 1 0 6 0 ∷ row 1 6 10 0 ∷ [])
+    ∷ planned-case two-gaps (planned 4 17 0 0) (row 0 0 2 0 ∷ row 1 5 9 0 ∷ row 1 14 17 0 ∷ row 1 0 3 0 ∷ [])
+    ∷ planned-case ready-past-the-gap (planned 3 12 0 0) (row 0 0 2 0 ∷ row 1 5 9 0 ∷ row 1 9 12 0 ∷ [])
     ∷ []
 
 pub in-corners : All-given corners
-unfolding given near-means best-past-budget equal-finishes two-tasks deadlines corners
-in-corners = (refl, (refl, (refl, (refl, (refl, (refl, (refl, (refl, (refl, (refl, (refl, tt)))))))))))
+unfolding given near-means best-past-budget equal-finishes two-tasks deadlines beside waits gap-of between-rows two-gaps ready-past-the-gap corners
+in-corners =
+    (refl, (refl, (refl, (refl, (refl, (refl, (refl, (refl, (refl, (refl, (refl, (refl, (refl, (refl, (refl, (refl, (refl, (refl, (refl, tt)))))))))))))))))))
 
 -- The label lookup: a task's label, the last task's, a task that is not there, and a request refused in reading.
 pub looked-up :
