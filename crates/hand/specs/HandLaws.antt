@@ -1,7 +1,7 @@
 -- The row of the task in hand, from arrays of its costs and finishes and the choice from them.
 use Prim.Native.Nat.{ℕ, _+_, _-_, _≤_, _<_}
-use mathlib.Core.Path.{_≡_, refl, ap}
-use mathlib.Core.List.{List, List·Memᴰ, List·Memᴰ·eq-of-singleton}
+use mathlib.Core.Path.{_≡_, refl}
+use mathlib.Core.List.{List}
 use native.Mathlib.Omega.{arith}
 use Rattle.rules.specs.Workflow.{Workflow}
 use Rattle.rules.specs.Ranks.{cost}
@@ -14,8 +14,8 @@ use Rattle.laws.specs.Method.{HBCS-same, HBCS-takes-processor}
 use Rattle.costs.specs.CostLaws.{cost-at-most}
 use Rattle.choosing.specs.Asked.{asked, InRange}
 use Rattle.laws.specs.Stores.{at}
-use Rattle.laws.specs.Filled.{AtMost, Filled}
-use Rattle.hand.specs.Busy.{kept-busy}
+use Rattle.laws.specs.Filled.{Filled}
+use Rattle.busy.specs.Kept.{kept-busy, EndBy}
 use Rattle.hand.specs.Hand.{start-by, finish-by, question-by, row-by}
 use Rattle.hand.specs.declared.Row.{Row}
 
@@ -24,11 +24,6 @@ pub record RowOn (W : Workflow) (i j : ℕ) (costs finishes : List ℕ) (row : R
   pub processor : j < W .processors
   pub minutes-in-finish : W .minutes i j ≤ at finishes j
   pub row-is : record { processor = j; start = at finishes j - W .minutes i j; finish = at finishes j; cost = at costs j } ≡ row
-
--- What is kept of a processor ends by b, where the array is at most b.
-kept-ends : {b : ℕ} (until : List ℕ) (j : ℕ) → AtMost b until → (v : Interval) → List·Memᴰ v (kept-busy until j) → v .end ≤ b
-unfolding kept-busy
-kept-ends until j most v m = omega (arith, ap (λ (w : Interval). w .end) (List·Memᴰ·eq-of-singleton m), most j)
 
 pub finish-is :
     (W : Workflow) (ready : ℕ → ℕ) (busy : ℕ → List Interval) (i j : ℕ) {minutes start : ℕ} → minutes ≡ W .minutes i j
@@ -39,13 +34,14 @@ finish-is W ready busy i j minutes start = rw (start, minutes)
 module _ (W : Workflow) (range : good.InRange W) (i : ℕ) where
   -- A task takes at most 2,000 minutes from when its data is ready and the processor is free.
   pub finish-at-most :
-      (ready : ℕ → ℕ) (until : List ℕ) → ((j : ℕ) → ready j ≤ ready-most) → AtMost ready-most until
-      → (j : ℕ) → finish-by W ready (kept-busy until) i j ≤ asked-finish-most
+      (ready : ℕ → ℕ) (begins ends first : List ℕ) → ((j : ℕ) → ready j ≤ ready-most) → EndBy ready-most begins ends first
+      → (j : ℕ) → j < W .processors → finish-by W ready (kept-busy begins ends first) i j ≤ asked-finish-most
   unfolding finish-by start-by
-  finish-at-most ready until by-then kept j =
+  finish-at-most ready begins ends first by-then ended j l =
       omega (
         arith,
-        start-at-most (kept-busy until j) (ready j) (W .minutes i j) ready-most (by-then j) (kept-ends until j kept),
+        start-at-most (kept-busy begins ends first j) (ready j) (W .minutes i j) ready-most (by-then j)
+            (ended j (omega (arith, range .processors-in))),
         range .minutes-most i j,
       )
 
@@ -56,13 +52,13 @@ module _ (W : Workflow) (range : good.InRange W) (i : ℕ) where
     question = asked (W .processors) costs finishes rb rcb
 
     pub asked-in-range :
-        ((j : ℕ) → finish-by W ready busy i j ≤ asked-finish-most) → rb ≤ budget-most → rcb ≤ total-most → InRange question
+        ((j : ℕ) → j < W .processors → finish-by W ready busy i j ≤ asked-finish-most) → rb ≤ budget-most → rcb ≤ total-most → InRange question
     asked-in-range few rb-most rcb-most =
         record {
           processors-least = range .processors-in .from-low;
           processors-most = range .processors-in .to-high;
           costs = λ j l. omega (arith, all-costs .below j l, cost-at-most W range i j);
-          finishes = λ j l. omega (arith, all-finishes .below j l, few j);
+          finishes = λ j l. omega (arith, all-finishes .below j l, few j l);
           RB = rb-most;
           RCB = rcb-most;
         }

@@ -1,3 +1,2 @@
-pub mod Busy
 pub mod Hand
 pub mod HandLaws

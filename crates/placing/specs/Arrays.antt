@@ -6,16 +6,18 @@ use mathlib.Core.List.{List, [], _∷_}
 use native.Mathlib.Omega.{arith}
 use lib.Dec.{eqb}
 use lib.ListN.{set, length-set, replicate}
-use borrow.Author.Tests.{eqb-true}
-use Rattle.rules.specs.Start.{start-on}
 use Rattle.rules.specs.Rows.{Row, Placed, row-of, is-placed, busy}
-use Rattle.laws.specs.StartLaws.{SameStart, up-to, up-to-0-as-nothing, up-to-finish-as-all}
+use Rattle.laws.specs.SameStart.{SameStart, same-start-more}
 use Rattle.laws.specs.LatestFinish.{taken-up}
 use Rattle.laws.specs.Tests.{cond-mapped}
-use Rattle.laws.specs.Stores.{stored, stored-holds, repeated, at}
-use Rattle.hand.specs.Busy.{kept-busy}
+use Rattle.laws.specs.Stores.{stored-holds, repeated}
+use Rattle.busy.specs.declared.Processors.{Processors}
+use Rattle.busy.specs.Kept.{kept-by}
+use Rattle.busy.specs.KeptLaws.{none-in-order, none-busy}
+use Rattle.busy.specs.Put.{WithRow}
+use Rattle.busy.specs.PutLaws.{put-all, put-in-order, put-busy}
 use Rattle.placing.specs.Placed.{Column, Columns}
-use Rattle.placing.specs.Kept.{Marks, Until}
+use Rattle.placing.specs.Kept.{Marks, KeptBusy}
 
 -- At first no task has a row.
 column-first : (field : Row → ℕ) → ((i : ℕ) → field (row-of [] i) ≡ 0) → Column field [] (replicate 64 0)
@@ -35,9 +37,9 @@ pub marks-first : Marks [] (replicate 64 false)
 unfolding is-placed
 marks-first = record { size = refl; holds = repeated 64 false }
 
-pub until-first : Until [] (replicate 16 0)
-unfolding busy kept-busy
-until-first = record { size = refl; holds = λ j. rw (repeated {A = ℕ} 16 0 j) up-to-0-as-nothing }
+pub busy-first : KeptBusy [] 0 (record { begins = replicate 64 0; ends = replicate 64 0; first = replicate 17 0 })
+unfolding busy
+busy-first = record { in-order = none-in-order; in-all = refl; holds = λ j l. rw (none-busy j) (λ ready minutes. refl) }
 
 module _ (p : Placed) (rows : List Placed) where
   column-more : (field : Row → ℕ) {xs : List ℕ} → Column field rows xs → p .task < 64 → Column field (p ∷ rows) (set xs (p .task) (field (p .row)))
@@ -74,20 +76,23 @@ module _ (p : Placed) (rows : List Placed) where
       go true t = refl
       go false t = refl
 
-  -- A task that starts where the rule says is the last on its processor.
-  module _ (ready minutes : ℕ) (start-is : p .row .start ≡ start-on (busy rows (p .row .processor)) ready minutes)
-      (finish-is : p .row .finish ≡ p .row .start + minutes) where
-    pub until-more : {until : List ℕ} → Until rows until → p .row .processor < 16 → Until (p ∷ rows) (set until (p .row .processor) (p .row .finish))
-    unfolding busy kept-busy
-    until-more {until} held l =
-        record {
-          size = length-set until (p .row .processor) (p .row .finish) ∙ held .size;
-          holds = λ j.
-              rw (stored until (p .row .processor) (p .row .finish) 0 j (omega (arith, held .size))) (go j (eqb (p .row .processor) j) refl);
-        }
-      where
-        go :
-            (j : ℕ) (s : Bool) → eqb (p .row .processor) j ≡ s
-            → SameStart (up-to (cond s (p .row .finish) (at until j))) (cond s (taken-up (p .row) ∷ busy rows j) (busy rows j))
-        go j true e = rw (← eqb-true (p .row .processor) j e) (up-to-finish-as-all _ ready minutes start-is finish-is)
-        go j false e = held .holds j
+  -- Its row is put among those of its processor.
+  pub busy-more :
+      {k : ℕ} {before after : Processors} → KeptBusy rows k before → p .row .processor < 16 → k < 64 → p .row .start < p .row .finish
+      → WithRow k (p .row .processor) (p .row .start) (p .row .finish) before after → KeptBusy (p ∷ rows) (k + 1) after
+  unfolding busy
+  busy-more {before = before} held l few some put =
+      let order = held .in-order in
+      record {
+        in-order = put-in-order order (held .in-all) l few some put;
+        in-all = put-all order (held .in-all) l few some put;
+        holds = λ j below ready minutes.
+            put-busy order (held .in-all) l few some put j below ready minutes
+            ∙ go j (eqb (p .row .processor) j) (held .holds j below) ready minutes;
+      }
+    where
+      go :
+          (j : ℕ) (s : Bool) → SameStart (kept-by before j) (busy rows j)
+          → SameStart (cond s (taken-up (p .row) ∷ kept-by before j) (kept-by before j)) (cond s (taken-up (p .row) ∷ busy rows j) (busy rows j))
+      go j true same = same-start-more (taken-up (p .row)) _ _ same
+      go j false same = same

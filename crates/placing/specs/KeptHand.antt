@@ -15,7 +15,7 @@ use Rattle.laws.specs.Method.{ChoosesAmong}
 use Rattle.laws.specs.Stores.{at}
 use Rattle.laws.specs.Filled.{AtMost, Filled}
 use Rattle.laws.specs.FilledLaws.{filled-at-most}
-use Rattle.hand.specs.Busy.{kept-busy}
+use Rattle.busy.specs.Kept.{kept-by}
 use Rattle.hand.specs.Hand.{start-by, finish-by, question-by, row-by}
 use Rattle.hand.specs.declared.Row as code
 use Rattle.placing.specs.State.{State, meant-row}
@@ -46,18 +46,18 @@ module _ {W : Workflow} (range : InRange W) {rows : List Placed} {k : ℕ} {stat
         range .tasks-in,
       ))
 
-  start-kept : (j : ℕ) → j < W .processors → start-by W (at minutes) (kept-busy (state .until)) i j ≡ start-of W rows i j
+  start-kept : (j : ℕ) → j < W .processors → start-by W (at minutes) (kept-by (state .processors)) i j ≡ start-of W rows i j
   unfolding start-by start-of
   start-kept j l =
-      kept .busy-until .holds j _ _ ∙ ap (λ r. start-on (busy rows j) r (W .minutes i j)) (all-ready .below j l ∙ ready-kept j)
+      kept .processors .holds j (omega (arith, range .processors-in)) _ _ ∙ ap (λ r. start-on (busy rows j) r (W .minutes i j)) (all-ready .below j l ∙ ready-kept j)
 
-  finish-kept : (j : ℕ) → j < W .processors → finish-by W (at minutes) (kept-busy (state .until)) i j ≡ finish-of W rows i j
+  finish-kept : (j : ℕ) → j < W .processors → finish-by W (at minutes) (kept-by (state .processors)) i j ≡ finish-of W rows i j
   unfolding finish-by finish-of
   finish-kept j l = ap (λ x. x + W .minutes i j) (start-kept j l)
 
   module _ {M : Method} (among : ChoosesAmong M) {to-come : ℕ} (to-come-is : to-come ≡ RCB W rows i) where
     abbrev asked : Question
-    asked = question-by W (at minutes) (kept-busy (state .until)) i (state .rb) to-come
+    asked = question-by W (at minutes) (kept-by (state .processors)) i (state .rb) to-come
 
     -- The method takes the processor that it takes for the rules' question.
     choice-kept : M asked ≡ M (question W rows i)
@@ -67,7 +67,7 @@ module _ {W : Workflow} (range : InRange W) {rows : List Placed} {k : ℕ} {stat
         (record { processors = refl; cost = λ j l. refl; finish = finish-kept; RB = kept .rb-is; RCB = to-come-is })
 
     -- So the row is the rules'.
-    pub row-kept : {r : code.Row} → r ≡ row-by W (at minutes) (kept-busy (state .until)) i M (state .rb) to-come
+    pub row-kept : {r : code.Row} → r ≡ row-by W (at minutes) (kept-by (state .processors)) i M (state .rb) to-come
         → meant-row r ≡ row-on W rows i (M (question W rows i))
     unfolding row-on
     row-kept handed =

@@ -7,27 +7,27 @@ use native.Mathlib.Omega.{arith}
 use Rattle.rules.specs.Orders.{first}
 use Rattle.rules.specs.Workflow.{Workflow}
 use Rattle.rules.specs.Ranks.{R, lowest-cost, cheapest-total, next-task}
-use Rattle.rules.specs.Rows.{Placed, is-placed, spent, length-of}
+use Rattle.rules.specs.Rows.{Placed, is-placed, busy, spent, length-of}
 use Rattle.rules.specs.Placing.{RCB}
 use Rattle.good.specs.Ranges.{InRange}
 use Rattle.laws.specs.Bounds.{finish-most, ready-most, cost-most, total-most, budget-most}
-use Rattle.laws.specs.StartLaws.{start-up-to}
-use Rattle.laws.specs.LatestFinish.{finish-in-length, start-in-length}
+use Rattle.laws.specs.SameStart.{same-start-ends}
+use Rattle.laws.specs.LatestFinish.{finish-in-length, busy-in-length}
 use Rattle.laws.specs.Tests.{cond-either}
 use Rattle.laws.specs.Folds.{sum-at-most-each}
 use Rattle.laws.specs.Orders.{higher-same, among-same}
 use Rattle.laws.specs.First.{first-same}
 use Rattle.laws.specs.Unmarked.{sum-unmarked-less, count-unmarked-at-first}
 use Rattle.laws.specs.NextTask.{next-task-free}
-use Rattle.laws.specs.Stores.{at}
 use Rattle.laws.specs.Filled.{AtMost}
-use Rattle.hand.specs.Busy.{kept-busy}
+use Rattle.busy.specs.Kept.{EndBy}
+use Rattle.busy.specs.KeptLaws.{kept-has-minutes}
 use Rattle.costs.specs.CostLaws.{lowest-cost-at-most}
 use Rattle.order.specs.Standing.{placing-order}
 use Rattle.placing.specs.Placed.{RanksOf, Columns}
 use Rattle.placing.specs.State.{State, without-rows}
 use Rattle.placing.specs.Kept.{Kept}
-use Rattle.placing.specs.Arrays.{marks-first, until-first}
+use Rattle.placing.specs.Arrays.{marks-first, busy-first}
 
 -- At first no task is placed.
 pub kept-first :
@@ -38,7 +38,7 @@ kept-first W none budget cheapest =
     record {
       columns = none;
       marks = marks-first;
-      busy-until = until-first;
+      processors = busy-first;
       rb-is = omega arith;
       spent-is = refl;
       rcb-is = cheapest;
@@ -56,15 +56,10 @@ module _ {W : Workflow} (range : InRange W) {rows : List Placed} {k : ℕ} {stat
   pub ends-within : AtMost finish-most (state .ends)
   ends-within i = omega (arith, kept .columns .finishes-hold .holds i, finish-in-length rows i, length-within)
 
-  pub until-within : AtMost ready-most (state .until)
-  unfolding kept-busy
-  until-within j =
-      omega (
-        arith,
-        start-up-to (at (state .until) j) 0 0,
-        kept .busy-until .holds j 0 0,
-        start-in-length rows j 0 0 finish-most (omega arith) length-within,
-      )
+  pub busy-within : EndBy ready-most (state .processors .begins) (state .processors .ends) (state .processors .first)
+  busy-within j l v m =
+      same-start-ends _ (busy rows j) (kept .processors .holds j l) ready-most (λ u n. omega (arith, busy-in-length rows j u n, length-within)) v m
+      (kept-has-minutes (kept .processors .in-order) l m)
 
   pub rb-within : state .rb ≤ budget-most
   rb-within = omega (arith, kept .rb-is, range .budget-in)

@@ -7,7 +7,7 @@ use native.Mathlib.Omega.{arith}
 use Rattle.rules.specs.Workflow.{Workflow}
 use Rattle.rules.specs.Ranks.{next-task}
 use Rattle.rules.specs.Start.{ready}
-use Rattle.rules.specs.Rows.{Placed, is-placed, spent, length-of}
+use Rattle.rules.specs.Rows.{Row, Placed, is-placed, spent, length-of}
 use Rattle.rules.specs.Method.{Method}
 use Rattle.rules.specs.Placing.{start-of, finish-of, RCB, question, row-on, place-next, place}
 use Rattle.good.specs.Ranges.{InRange}
@@ -16,32 +16,40 @@ use Rattle.laws.specs.Unmarked.{sum-unmarked-less}
 use Rattle.laws.specs.Method.{ChoosesAmong}
 use Rattle.laws.specs.Stores.{at}
 use Rattle.laws.specs.Filled.{Filled}
-use Rattle.hand.specs.Busy.{kept-busy}
+use Rattle.busy.specs.declared.Processors.{Processors}
+use Rattle.busy.specs.Kept.{kept-by}
+use Rattle.busy.specs.Put.{WithRow}
 use Rattle.hand.specs.Hand.{row-by}
 use Rattle.hand.specs.declared.Row as code
 use Rattle.costs.specs.CostLaws.{cost-at-most}
 use Rattle.placing.specs.State.{State, meant-row, with-row}
 use Rattle.placing.specs.Kept.{Kept}
-use Rattle.placing.specs.Arrays.{columns-more, marks-more, until-more}
+use Rattle.placing.specs.Arrays.{columns-more, marks-more, busy-more}
 use Rattle.placing.specs.KeptHand.{takes, row-kept}
 use Rattle.placing.specs.KeptLaws.{next-free}
 
+-- The row of a task is put among the k that are kept of the processors.
+abbrev pub PutIn : (k : ℕ) → Processors → Row → Processors → Type 0
+PutIn k before row after = WithRow k (row .processor) (row .start) (row .finish) before after
+
 -- On any processor.
 kept-on :
-    {W : Workflow} {rows : List Placed} {k i to-come j : ℕ} {state : State} → InRange W → Kept W rows k state → k < W .tasks
-    → i ≡ next-task W (is-placed rows) → to-come ≡ RCB W rows i → j < W .processors
-    → Kept W (record { task = i; row = row-on W rows i j } ∷ rows) (k + 1) (with-row state i (row-on W rows i j) to-come)
+    {W : Workflow} {rows : List Placed} {k i to-come j : ℕ} {state : State} {after : Processors} → InRange W → Kept W rows k state → k < W .tasks
+    → i ≡ next-task W (is-placed rows) → to-come ≡ RCB W rows i → j < W .processors → PutIn k (state .processors) (row-on W rows i j) after
+    → Kept W (record { task = i; row = row-on W rows i j } ∷ rows) (k + 1) (with-row state i (row-on W rows i j) to-come after)
 unfolding spent length-of is-placed RCB row-on start-of finish-of
-kept-on {W} {rows} {k} {i} {j = j} range kept more next to-come-is below =
+kept-on {W} {rows} {k} {i} {j = j} range kept more next to-come-is below put =
     let new : Placed = record { task = i; row = row-on W rows i j } in
     let (task, free) = next-free range kept more next in
     let in-array : i < 64 = omega (arith, range .tasks-in) in
-    let in-until : j < 16 = omega (arith, range .processors-in) in
+    let in-reach : j < 16 = omega (arith, range .processors-in) in
+    let some : new .row .start < new .row .finish = omega (arith, range .minutes-least i j task below) in
     let fewer = sum-unmarked-less (is-placed rows) (λ t. 1) (W .tasks) i task free in
     record {
       columns = columns-more new rows (kept .columns) in-array;
       marks = marks-more new rows (kept .marks) in-array;
-      busy-until = until-more new rows _ _ refl refl (kept .busy-until) in-until;
+      processors =
+          busy-more new rows (kept .processors) in-reach (omega (arith, range .tasks-in)) some put;
       rb-is = omega (arith, kept .rb-is);
       spent-is = ap (λ x. x + new .row .cost) (kept .spent-is);
       rcb-is = to-come-is;
@@ -61,7 +69,7 @@ module _ {M : Method} (among : ChoosesAmong M) {W : Workflow} (range : InRange W
     {to-come : ℕ}
     (to-come-is : to-come ≡ RCB W (place M W k) i)
     {r : code.Row}
-    (handed : r ≡ row-by W (at minutes) (kept-busy (state .until)) i M (state .rb) to-come) where
+    (handed : r ≡ row-by W (at minutes) (kept-by (state .processors)) i M (state .rb) to-come) where
   abbrev taken : ℕ
   taken = M (question W (place M W k) i)
 
@@ -76,5 +84,7 @@ module _ {M : Method} (among : ChoosesAmong M) {W : Workflow} (range : InRange W
   unfolding place place-next
   placed-more = ap (place M W) (add-one k) ∙ rw (← next)
 
-  pub kept-more : Kept W (place M W (k + 1)) (k + 1) (with-row state i (meant-row r) to-come)
-  kept-more = rw (placed-more, row-is) (kept-on range kept more next to-come-is (takes among range (place M W k) i))
+  pub kept-more :
+      {after : Processors} → PutIn k (state .processors) (meant-row r) after
+      → Kept W (place M W (k + 1)) (k + 1) (with-row state i (meant-row r) to-come after)
+  kept-more put = rw (placed-more, row-is) (kept-on range kept more next to-come-is (takes among range (place M W k) i) (rw row-is at put))

@@ -4,6 +4,7 @@ use mathlib.Core.Bool.{Bool, true, false}
 use mathlib.Core.List.{List}
 use lib.ListN.{set, replicate}
 use Rattle.rules.specs.Rows.{Row}
+use Rattle.busy.specs.declared.Processors.{Processors}
 use Rattle.hand.specs.declared.Row as code
 
 pub record State : Type 0 where
@@ -12,7 +13,7 @@ pub record State : Type 0 where
   pub ends : List ℕ
   pub costs : List ℕ
   pub placed : List Bool
-  pub until : List ℕ
+  pub processors : Processors
   pub rb : ℕ
   pub spent : ℕ
   pub rcb : ℕ
@@ -27,7 +28,7 @@ without-rows sits starts ends costs rb rcb =
       ends = ends;
       costs = costs;
       placed = replicate 64 false;
-      until = replicate 16 0;
+      processors = record { begins = replicate 64 0; ends = replicate 64 0; first = replicate 17 0 };
       rb = rb;
       spent = 0;
       rcb = rcb;
@@ -38,16 +39,16 @@ without-rows sits starts ends costs rb rcb =
 abbrev pub meant-row : code.Row → Row
 meant-row r = record { processor = r .processor; start = r .start; finish = r .finish; cost = r .cost }
 
--- Task i has a row more, and `rcb` is still to come.
-abbrev pub with-row : State → ℕ → Row → (rcb : ℕ) → State
-with-row state i row rcb =
+-- Task i has a row more, with this kept of the processors, and `rcb` is still to come.
+abbrev pub with-row : State → ℕ → Row → (rcb : ℕ) → Processors → State
+with-row state i row rcb processors =
     record {
       sits = set (state .sits) i (row .processor);
       starts = set (state .starts) i (row .start);
       ends = set (state .ends) i (row .finish);
       costs = set (state .costs) i (row .cost);
       placed = set (state .placed) i true;
-      until = set (state .until) (row .processor) (row .finish);
+      processors = processors;
       rb = state .rb - row .cost;
       spent = state .spent + row .cost;
       rcb = rcb;

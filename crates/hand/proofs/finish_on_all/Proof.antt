@@ -7,7 +7,7 @@ use Rattle.lookup.specs.Views.{view-in-range}
 use Rattle.laws.specs.Stores.{at}
 use Rattle.laws.specs.Filled.{Filled}
 use Rattle.laws.specs.FilledLaws.{filled-none, filled-more}
-use Rattle.hand.specs.Busy.{kept-busy}
+use Rattle.busy.specs.Kept.{kept-busy}
 use Rattle.hand.specs.Hand.{finish-by}
 use Rattle.hand.specs.HandLaws.{finish-is, finish-at-most}
 use borrow.Author.Needs.{needs}
@@ -16,10 +16,10 @@ use Rattle.hand.proofs.finish_on_all.Statement.{statement}
 use Rattle.hand.proofs.finish_on_all.Tie as tie
 
 abbrev Inv-loop : tie.InvT-loop
-Inv-loop s v ready until task all₀ j₀ all j = (j ≤ v .processors) × Filled j (finish-by (workflow-of s v) (at ready) (kept-busy until) task) all
+Inv-loop s v ready begins ends first task all₀ j₀ all j = (j ≤ v .processors) × Filled j (finish-by (workflow-of s v) (at ready) (kept-busy begins ends first) task) all
 
 abbrev μ-loop : tie.MeasureT-loop
-μ-loop s v ready until task all₀ j₀ all j = v .processors - j
+μ-loop s v ready begins ends first task all₀ j₀ all j = v .processors - j
 
 loop-holds : tie.Need-loop-holds Inv-loop μ-loop
 loop-holds c = (omega arith, filled-none _)
@@ -34,7 +34,7 @@ finish-here :
     (c : tie.After-start-on Inv-loop μ-loop)
     → let a = c .before .before .before .before .before .before .before .args in
     c .start-on .result + c .before .before .minutes .result
-    ≡ finish-by (workflow-of (a .s .now) (a .v)) (at (a .ready .now)) (kept-busy (a .until .now)) (a .task) (c .before .before .before .before .before .loop .j)
+    ≡ finish-by (workflow-of (a .s .now) (a .v)) (at (a .ready .now)) (kept-busy (a .begins .now) (a .ends .now) (a .first .now)) (a .task) (c .before .before .before .before .before .loop .j)
 finish-here c = finish-is _ _ _ _ _ (c .before .before .minutes .ensures .0) (c .start-on .ensures)
 
 minutes-requires : tie.Need-minutes-requires Inv-loop μ-loop
@@ -47,14 +47,16 @@ element-copy-out-start-on : tie.Need-element-copy-out-start-on Inv-loop μ-loop
 element-copy-out-start-on c = processor-below (c .before)
 
 start-on-requires : tie.Need-start-on-requires Inv-loop μ-loop
-start-on-requires c κs = processor-below (c .before .before)
+start-on-requires c κs = (processor-below (c .before .before), c .before .before .before .before .before .before .pre .1 .1 .0)
 
 add-all : tie.Need-add-all Inv-loop μ-loop
+unfolding workflow
 add-all c =
     let a = c .before .before .before .before .before .before .before .args in
     let pre = c .before .before .before .before .before .before .before .pre in
     let range = view-in-range (a .s .now) (a .v) (pre .0) in
-    omega (arith, finish-here c, finish-at-most _ range (a .task) (at (a .ready .now)) (a .until .now) (pre .1 .1) (pre .1 .2) (c .before .before .before .before .before .loop .j))
+    let ended = finish-at-most _ range (a .task) (at (a .ready .now)) (a .begins .now) (a .ends .now) (a .first .now) (pre .1 .0 .1) (pre .1 .1 .1) in
+    omega (arith, finish-here c, ended (c .before .before .before .before .before .loop .j) (c .before .before .before .if1 .taken))
 
 mul-all : tie.Need-mul-all Inv-loop μ-loop
 mul-all c = omega (arith, processor-below (c .before .before .before))

@@ -5,7 +5,7 @@ use Rattle.rules.specs.Method.{HBCS}
 use Rattle.lookup.specs.Lookup.{workflow-of}
 use Rattle.lookup.specs.Views.{view-in-range}
 use Rattle.laws.specs.Stores.{at}
-use Rattle.hand.specs.Busy.{kept-busy}
+use Rattle.busy.specs.Kept.{kept-busy}
 use Rattle.hand.specs.Hand.{row-by}
 use Rattle.hand.specs.HandLaws.{RowOn, finish-at-most, asked-in-range, row-on}
 use borrow.Author.Needs.{needs}
@@ -19,13 +19,13 @@ chosen-row :
     → let a = c .before .before .before .before .args in
     let W = workflow-of (a .s .now) (a .v) in
     RowOn W (a .task) (c .choose .result) (a .costs .now) (c .before .before .finish-on-all .result)
-    (row-by W (at (a .ready .now)) (kept-busy (a .until .now)) (a .task) HBCS (a .rb) (a .rcb))
+    (row-by W (at (a .ready .now)) (kept-busy (a .begins .now) (a .ends .now) (a .first .now)) (a .task) HBCS (a .rb) (a .rcb))
 unfolding workflow
 chosen-row c =
     let a = c .before .before .before .before .args in
     let pre = c .before .before .before .before .pre in
     let range = view-in-range (a .s .now) (a .v) (pre .0) in
-    row-on _ range (a .task) _ _ (a .rb) (a .rcb) (pre .1 .1 .0) (c .before .before .finish-on-all .ensures) (c .choose .ensures)
+    row-on _ range (a .task) _ _ (a .rb) (a .rcb) (pre .1 .1 .1 .0) (c .before .before .finish-on-all .ensures) (c .choose .ensures)
 
 processor-below : (c : tie.After-choose) → c .choose .result < 16
 unfolding workflow
@@ -45,10 +45,10 @@ choose-requires c κs =
     let W = workflow-of (a .s .now) (a .v) in
     let range = view-in-range (a .s .now) (a .v) (pre .0) in
     let finishes = c .before .finish-on-all .ensures in
-    asked-in-range W range (a .task) _ _ (a .rb) (a .rcb) (pre .1 .1 .0) finishes
-    (finish-at-most W range (a .task) (at (a .ready .now)) (a .until .now) (pre .1 .0 .1) (pre .1 .0 .2))
-    (pre .1 .1 .1)
-    (pre .1 .1 .2)
+    asked-in-range W range (a .task) _ _ (a .rb) (a .rcb) (pre .1 .1 .1 .0) finishes
+    (finish-at-most W range (a .task) (at (a .ready .now)) (a .begins .now) (a .ends .now) (a .first .now) (pre .1 .0 .1) (pre .1 .1 .0 .1))
+    (pre .1 .1 .1 .1)
+    (pre .1 .1 .1 .2)
 
 mul-finish : tie.Need-mul-finish
 mul-finish c = omega (arith, processor-below c)
@@ -68,8 +68,8 @@ minutes-requires c κs =
     let pre = c .before .before .before .before .before .pre in
     (pre .0, (pre .1 .0 .0, chosen-row (c .before) .processor))
 
-sub-t21 : tie.Need-sub-t21
-sub-t21 c = omega (arith, chosen-row (c .before .before) .minutes-in-finish, c .minutes .ensures .0)
+sub-t23 : tie.Need-sub-t23
+sub-t23 c = omega (arith, chosen-row (c .before .before) .minutes-in-finish, c .minutes .ensures .0)
 
 returns : tie.Need-returns
 returns c = rw (c .minutes .ensures .0) (chosen-row (c .before .before) .row-is)
@@ -85,5 +85,5 @@ row-for-spec =
     mul-cost
     element-copy-out-cost
     minutes-requires
-    sub-t21
+    sub-t23
     returns)

@@ -14,12 +14,15 @@ use Rattle.lookup.specs.Views.{view-in-range}
 use Rattle.laws.specs.Method.{HBCS-chooses-among}
 use Rattle.links.specs.LinksLaws.{linked-first}
 use Rattle.costs.specs.CostLaws.{lowest-filled}
-use Rattle.hand.specs.declared.Processors.{Processors}
+use Rattle.busy.specs.declared.Processors.{Processors}
+use Rattle.busy.specs.Kept.{InOrder}
+use Rattle.busy.specs.KeptLaws.{first-at-most-64}
+use Rattle.busy.specs.PlaceLaws.{place-in-reach}
 use Rattle.placing.specs.State.{State, meant-row, with-row}
 use Rattle.placing.specs.Kept.{Kept}
 use Rattle.placing.specs.KeptHand.{ready-within}
-use Rattle.placing.specs.KeptLaws.{kept-first, ends-within, until-within, rb-within, rcb-within, next-kept, next-free, rcb-less}
-use Rattle.placing.specs.KeptMore.{processor, kept-more}
+use Rattle.placing.specs.KeptLaws.{kept-first, ends-within, busy-within, rb-within, rcb-within, next-kept, next-free, rcb-less}
+use Rattle.placing.specs.KeptMore.{PutIn, processor, kept-more}
 use borrow.Author.Needs.{needs}
 use native.Mathlib.Omega.{arith}
 use Rattle.placing.proofs.place.Statement.{statement}
@@ -34,7 +37,7 @@ kept-in sits starts ends costs placed processors rb spent rcb length =
       ends = ends;
       costs = costs;
       placed = placed;
-      until = processors .until;
+      processors = processors;
       rb = rb;
       spent = spent;
       rcb = rcb;
@@ -110,24 +113,34 @@ rcb-is c =
 
 -- Once the task has its row: the turn that it ended, and what is kept after it.
 abbrev turn-of : tie.After-row-for Inv-loop μ-loop → tie.After-next-task Inv-loop μ-loop
-turn-of c = c .before .before .before .before .before .before .before .before .before .before .before .before .before
+turn-of c = c .before .before .before .before .before .before .before .before .before .before .before .before .before .before .before
+
+-- Its processor is one of the 16.
+processor-below : (c : tie.After-row-for Inv-loop μ-loop) → c .row-for .result .processor < 16
+unfolding workflow
+processor-below c =
+    let turn = turn-of c in
+    let kept = turn .before .before .before .before .loop .inv .1 in
+    let to-come = rcb-is (c .before .before .before .before .before .before .before .before .before .before .before .before) .1 in
+    let all-ready = c .before .before .before .before .before .before .before .ready-on-all .ensures in
+    let below = processor HBCS-chooses-among (in-range turn) kept (left turn) (next-is turn) all-ready to-come (c .row-for .ensures) in
+    omega (arith, below, in-range turn .processors-in .to-high)
 
 turned : (c : tie.After-row-for Inv-loop μ-loop) →
     let turn = turn-of c in
     let loop = turn .before .before .before .before .loop in
     let row = c .row-for .result in
     let state = kept-in (loop .sits) (loop .starts) (loop .ends) (loop .costs) (loop .placed) (loop .processors) (loop .rb) (loop .spent) (loop .rcb) (loop .length) in
-    (row .processor < 16) × Kept (flow turn) (place HBCS (flow turn) (loop .k + 1)) (loop .k + 1)
-    (with-row state (turn .next-task .result) (meant-row row) (loop .rcb - c .before .before .before .before .before .before .before .before .before .before .lowest-of .result))
+    (after : Processors) → PutIn (loop .k) (loop .processors) (meant-row row) after
+    → Kept (flow turn) (place HBCS (flow turn) (loop .k + 1)) (loop .k + 1)
+    (with-row state (turn .next-task .result) (meant-row row) (loop .rcb - c .before .before .before .before .before .before .before .before .before .before .before .before .lowest-of .result) after)
 unfolding workflow
-turned c =
+turned c after put =
     let turn = turn-of c in
     let kept = turn .before .before .before .before .loop .inv .1 in
-    let to-come = rcb-is (c .before .before .before .before .before .before .before .before .before .before) .1 in
-    let all-ready = c .before .before .before .before .before .ready-on-all .ensures in
-    let handed = c .row-for .ensures in
-    let below = processor HBCS-chooses-among (in-range turn) kept (left turn) (next-is turn) all-ready to-come handed in
-    (omega (arith, below, in-range turn .processors-in .to-high), kept-more HBCS-chooses-among (in-range turn) kept (left turn) (next-is turn) all-ready to-come handed)
+    let to-come = rcb-is (c .before .before .before .before .before .before .before .before .before .before .before .before) .1 in
+    let all-ready = c .before .before .before .before .before .before .before .ready-on-all .ensures in
+    kept-more HBCS-chooses-among (in-range turn) kept (left turn) (next-is turn) all-ready to-come (c .row-for .ensures) put
 
 cost-on-all-requires : tie.Need-cost-on-all-requires Inv-loop μ-loop
 unfolding workflow
@@ -154,18 +167,17 @@ ready-on-all-requires c κs =
 row-for-requires : tie.Need-row-for-requires Inv-loop μ-loop
 unfolding workflow
 row-for-requires c κs =
-    let turn = c .before .before .before .before .before .before .before .before .before .before .before .before in
+    let turn = c .before .before .before .before .before .before .before .before .before .before .before .before .before .before in
     let kept = turn .before .before .before .before .loop .inv .1 in
-    let costs-of = c .before .before .before .before .before .before .before .before .before .before .before .cost-on-all in
-    let all-ready = c .before .before .before .before .ready-on-all .ensures in (
+    let costs-of = c .before .before .before .before .before .before .before .before .before .before .before .before .before .cost-on-all in
+    let all-ready = c .before .before .before .before .before .before .ready-on-all .ensures in (
       turn .before .before .before .before .before .before .before .before .before .pre .0,
       (
+        (task-below turn, ready-within (in-range turn) kept _ all-ready (left turn)),
         (
-          task-below turn,
-          ready-within (in-range turn) kept _ all-ready (left turn),
-          until-within (in-range turn) kept (left turn),
+          (kept .processors .in-order, busy-within (in-range turn) kept (left turn)),
+          (costs-of .ensures, rb-within (in-range turn) kept (left turn), omega (arith, rcb-within (in-range turn) kept (left turn))),
         ),
-        (costs-of .ensures, rb-within (in-range turn) kept (left turn), omega (arith, rcb-within (in-range turn) kept (left turn))),
       ),
     )
 
@@ -196,37 +208,86 @@ element-write-costs c = task-in-array (turn-of c)
 array-write-placed : tie.Need-array-write-placed Inv-loop μ-loop
 array-write-placed c = task-in-array (turn-of c)
 
-mul-processors : tie.Need-mul-processors Inv-loop μ-loop
-mul-processors c = omega (arith, turned c .0)
+-- What is kept of the processors is in order, and there is room for a row at its place.
+kept-in-order :
+    (c : tie.After-row-for Inv-loop μ-loop)
+    → let processors = turn-of c .before .before .before .before .loop .processors in
+    InOrder (processors .begins) (processors .ends) (processors .first)
+kept-in-order c = turn-of c .before .before .before .before .loop .inv .1 .processors .in-order
 
-element-write-processors : tie.Need-element-write-processors Inv-loop μ-loop
-element-write-processors c = turned c .0
+in-reach :
+    (c : tie.After-position Inv-loop μ-loop)
+    → let k = turn-of (c .before .before .before .before) .before .before .before .before .loop .k in
+    (c .position .result ≤ k) × (k < 64)
+in-reach c =
+    let row = c .before .before .before .before in
+    let turn = turn-of row in
+    let kept = turn .before .before .before .before .loop .inv .1 .processors in
+    let place = place-in-reach (kept .in-order) (processor-below row) (row .row-for .result .start) in
+    (omega (arith, c .position .ensures, place, kept .in-all), omega (arith, left turn, in-range turn .tasks-in))
+
+-- What is kept once its row is put there.
+put : (c : tie.After-one-more Inv-loop μ-loop) →
+    let row = c .before .before .before .before .before .before .before .before .before .before in
+    let loop = turn-of row .before .before .before .before .loop in
+    PutIn (loop .k) (loop .processors) (meant-row (row .row-for .result))
+    (record { begins = c .before .before .before .before .insert .last .0; ends = c .before .before .insert2 .last .0; first = c .one-more .last .0 })
+put c =
+    record {
+      place = c .before .before .before .before .before .before .position .result;
+      place-is = c .before .before .before .before .before .before .position .ensures;
+      begins-are = c .before .before .before .before .insert .ensures;
+      ends-are = c .before .before .insert2 .ensures;
+      first-are = c .one-more .ensures;
+    }
+
+position-requires : tie.Need-position-requires Inv-loop μ-loop
+position-requires c κs =
+    let order = kept-in-order (c .before .before .before) in
+    let below = processor-below (c .before .before .before) in
+    (below, order .first-rises _ below, first-at-most-64 order)
+
+insert-requires : tie.Need-insert-requires Inv-loop μ-loop
+insert-requires c κs =
+    let row = c .before .before .before .before .before in
+    (kept-in-order row .begins-size, in-reach (c .before) .0, in-reach (c .before) .1)
+
+insert-requires-2 : tie.Need-insert-requires-2 Inv-loop μ-loop
+insert-requires-2 c κs =
+    let row = c .before .before .before .before .before .before .before in
+    (kept-in-order row .ends-size, in-reach (c .before .before .before) .0, in-reach (c .before .before .before) .1)
+
+one-more-requires : tie.Need-one-more-requires Inv-loop μ-loop
+one-more-requires c κs =
+    let row = c .before .before .before .before .before .before .before .before .before in
+    (kept-in-order row .first-size, processor-below row, first-at-most-64 (kept-in-order row))
 
 less-requires : tie.Need-less-requires Inv-loop μ-loop
 less-requires c κs = search needs
 
 add-spent : tie.Need-add-spent Inv-loop μ-loop
 add-spent c =
-    let turn = turn-of (c .before .before) in
-    omega (arith, turned (c .before .before) .1 .spent-most, left turn, in-range turn .tasks-in)
+    let row = c .before .before .before .before .before .before .before .before .before .before .before .before in
+    let turn = turn-of row in
+    omega (arith, turned row _ (put (c .before .before)) .spent-most, left turn, in-range turn .tasks-in)
 
 larger-requires : tie.Need-larger-requires Inv-loop μ-loop
 larger-requires c κs = search needs
 
 add-k : tie.Need-add-k Inv-loop μ-loop
 add-k c =
-    let turn = turn-of (c .before .before .before) in
+    let turn = turn-of (c .before .before .before .before .before .before .before .before .before .before .before .before .before) in
     omega (arith, left turn, in-range turn .tasks-in)
 
 loop-less : tie.Need-loop-less Inv-loop μ-loop
 unfolding workflow
-loop-less c = omega (arith, left (turn-of (c .before .before .before)))
+loop-less c = omega (arith, left (turn-of (c .before .before .before .before .before .before .before .before .before .before .before .before .before)))
 
 loop-again : tie.Need-loop-again Inv-loop μ-loop
 unfolding workflow
 loop-again c =
-    let row = c .before .before .before in
-    (omega (arith, left (turn-of row)), rw (c .larger .ensures, c .before .before .less .ensures) (turned row .1))
+    let row = c .before .before .before .before .before .before .before .before .before .before .before .before .before in
+    (omega (arith, left (turn-of row)), rw (c .larger .ensures, c .before .before .less .ensures) (turned row _ (put (c .before .before .before))))
 
 less-requires-2 : tie.Need-less-requires-2 Inv-loop μ-loop
 less-requires-2 c κs = search needs
@@ -268,8 +329,10 @@ place-spec =
     mul-costs
     element-write-costs
     array-write-placed
-    mul-processors
-    element-write-processors
+    position-requires
+    insert-requires
+    insert-requires-2
+    one-more-requires
     less-requires
     add-spent
     larger-requires

@@ -1,0 +1,35 @@
+-- What is kept of what the processors are busy with, in three arrays.
+use Prim.Native.Nat.{ℕ, _+_, _-_, _≤_, _<_}
+use mathlib.Core.Path.{_≡_}
+use mathlib.Core.List.{List, List·Memᴰ}
+use lib.ListN.{length}
+use Rattle.rules.specs.Folds.{listing}
+use Rattle.rules.specs.Start.{Interval}
+use Rattle.laws.specs.Stores.{at}
+use Rattle.busy.specs.declared.Processors.{Processors}
+
+-- The row that is kept at k.
+abbrev pub span : (begins ends : List ℕ) → ℕ → Interval
+span begins ends k = record { begin = at begins k; end = at ends k }
+
+-- Those of processor j stand from `first j` on, up to `first (j + 1)`.
+unfoldable pub kept-busy : (begins ends first : List ℕ) → ℕ → List Interval
+kept-busy begins ends first j = listing (at first (j + 1) - at first j) (λ k. span begins ends (at first j + k))
+
+-- The same of the struct that holds the arrays.
+abbrev pub kept-by : Processors → ℕ → List Interval
+kept-by p = kept-busy (p .begins) (p .ends) (p .first)
+
+-- The rows of 16 processors, at most 64 in all: processor after processor, on each rising by begin, and each has minutes.
+pub record InOrder (begins ends first : List ℕ) : Type 0 where
+  pub begins-size : length begins ≡ 64
+  pub ends-size : length ends ≡ 64
+  pub first-size : length first ≡ 17
+  pub few : at first 16 ≤ 64
+  pub first-rises : (j : ℕ) → j < 16 → at first j ≤ at first (j + 1)
+  pub begins-rise : (j k l : ℕ) → j < 16 → at first j ≤ k → k ≤ l → l < at first (j + 1) → at begins k ≤ at begins l
+  pub have-minutes : (k : ℕ) → k < at first 16 → at begins k < at ends k
+
+-- All of them end by c.
+abbrev pub EndBy : ℕ → (begins ends first : List ℕ) → Type 0
+EndBy c begins ends first = (j : ℕ) → j < 16 → (v : Interval) → List·Memᴰ v (kept-busy begins ends first j) → v .end ≤ c
