@@ -7,12 +7,13 @@ use lib.ListN.{length, drop}
 use Rattle.label.specs.Length.{stands-in, all, is-label, length-up-to, label-length}
 use Rattle.rules.specs.Folds.{sum, largest, lowest, any, listing}
 use Rattle.rules.specs.Orders.{tie, lower, higher, among, first}
-use Rattle.rules.specs.Fields.{kind-byte, body, size, byte, two-bytes, four-bytes, H-tasks, H-processors, H-budget, D-deadline, P-processor}
-use Rattle.rules.specs.Fields.{P-price, T-task, T-label, W-task, W-processor, W-minutes, E-from, E-to, E-transfer}
+use Rattle.rules.specs.Fields.{Kind, kind-byte, body, size, byte, two-bytes, four-bytes, H-tasks, H-processors, H-budget, D-deadline, P-processor}
+use Rattle.rules.specs.Fields.{P-price, Q-minimum, T-task, T-label, W-task, W-processor, W-minutes, E-from, E-to, E-transfer}
 use Rattle.rules.specs.Records.{Read, read, stopped, unless, first-fault, opening-by, opening, answered, record-at, within, header-at, deadline-at}
-use Rattle.rules.specs.Records.{price-at, task-at, minutes-at, rising, edge-ranges, edge-at, end-at}
+use Rattle.rules.specs.Records.{price-checks, price-at, minimum-at, processor-at, task-at, minutes-at, rising, edge-ranges, edge-at, end-at}
 use Rattle.rules.specs.Reading.{then, each, deadline-part, prices-part, task-part, tasks-part, edges-part, nothing-after, Request, read-request}
-use Rattle.rules.specs.Workflow.{price-place, task-place, minutes-place, edge-place, workflow}
+use Rattle.rules.specs.Workflow.{processor-kind, processor-minimum, past-processors, processor-place, task-place, minutes-place, edge-place}
+use Rattle.rules.specs.Workflow.{read-in, workflow}
 use Rattle.rules.specs.Labels.{part-of, label-place, label-part, label-in, label-lookup, label}
 use Rattle.rules.specs.Cycle.{linked, leads-through, back-to-itself, cyclic, lowest-in-cycle}
 use Rattle.rules.specs.Ranks.{cost, lowest-cost, cheapest-total, rank-by, rank-within, R, next-task}
@@ -39,6 +40,9 @@ D-record deadline = bytes "D" ++ in-four deadline
 
 abbrev pub P-record : ℕ → ℕ → List ℕ
 P-record processor price = bytes "P" ++ (processor ∷ price ∷ [])
+
+abbrev pub Q-record : ℕ → ℕ → ℕ → List ℕ
+Q-record processor price minimum = bytes "Q" ++ (processor ∷ price ∷ []) ++ in-two minimum
 
 -- The label with its spaces.
 abbrev pub T-record : ℕ → String → List ℕ
@@ -84,11 +88,11 @@ unfolding
     stands-in all is-label length-up-to label-length
     sum largest lowest any listing tie lower higher among first
     kind-byte body size byte two-bytes four-bytes
-    H-tasks H-processors H-budget D-deadline P-processor P-price T-task T-label W-task W-processor W-minutes E-from E-to E-transfer
+    H-tasks H-processors H-budget D-deadline P-processor P-price Q-minimum T-task T-label W-task W-processor W-minutes E-from E-to E-transfer
     unless first-fault opening-by opening answered record-at within
-    header-at deadline-at price-at task-at minutes-at rising edge-ranges edge-at end-at
+    header-at deadline-at price-checks price-at minimum-at processor-at task-at minutes-at rising edge-ranges edge-at end-at
     then each deadline-part prices-part task-part tasks-part edges-part nothing-after read-request
-    price-place task-place minutes-place edge-place workflow
+    processor-kind processor-minimum past-processors processor-place task-place minutes-place edge-place read-in workflow
     part-of label-place label-part label-in label-lookup label
     linked leads-through back-to-itself cyclic lowest-in-cycle
     cost lowest-cost cheapest-total rank-by rank-within R next-task
@@ -120,3 +124,11 @@ ranks-in s (stopped number place) = []
 
 unfoldable pub ranks : List ℕ → List ℕ
 ranks s = ranks-in s (read-request s)
+
+-- The kind that each of a request's processors was read in; none where it is refused in reading.
+unfoldable pub kinds-in : List ℕ → Read Request → List Kind
+kinds-in s (read next r) = listing (r .processors) (read-in s r)
+kinds-in s (stopped number place) = []
+
+unfoldable pub kinds : List ℕ → List Kind
+kinds s = kinds-in s (read-request s)

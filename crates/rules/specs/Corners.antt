@@ -3,12 +3,15 @@ use Prim.Native.Nat.{ℕ, _*_}
 use Prim.Native.String.{String}
 use mathlib.Core.Path.{_≡_, refl}
 use mathlib.Core.List.{List, [], _∷_, _++_}
-use lib.ListN.{take}
+use lib.ListN.{take, drop}
+use Rattle.rules.specs.Fields.{P, Q}
 use Rattle.rules.specs.Labels.{empty-start, label-lookup, label}
 use Rattle.rules.specs.Answer.{planned, refused, answer}
 use Rattle.rules.specs.Buffers.{Buffers, rows-lent, row-in, column-after, buffers-written, buffers-after}
 use Rattle.rules.specs.Text.{bytes}
-use Rattle.rules.specs.Cases.{H-record, D-record, P-record, T-record, W-record, E-record, row, Case, refused-case, planned-case, given, All-given}
+use Rattle.rules.specs.Cases.{H-record, D-record, P-record, Q-record, T-record, W-record, E-record, row, Case, refused-case, planned-case}
+use Rattle.rules.specs.Cases.{given, All-given, answer-multiplied, kinds-in, kinds}
+use Rattle.rules.specs.Starred.{sample, S}
 
 -- Two tasks whose means on two processors differ by less than a minute, so that only the sums part them: task 1 comes first, at any a.
 near-means : ℕ → List ℕ
@@ -85,6 +88,20 @@ two-gaps = waits 4 (beside 2 "three   " 20 3 ++ beside 3 "four    " 19 3 ++ E-re
 ready-past-the-gap : List ℕ
 ready-past-the-gap = waits 3 (beside 2 "three   " 19 3 ++ E-record 0 1 3 ++ E-record 0 2 6)
 
+-- One task on a processor that bills a least amount: with this budget, these minutes, at this price and with this minimum.
+pub billed : ℕ → ℕ → ℕ → ℕ → List ℕ
+billed budget minutes price minimum =
+    H-record 1 1 budget ++ Q-record 0 price minimum ++ T-record 0 "one     " ++ W-record 0 0 minutes ++ bytes "Z"
+
+-- One task, with these processor records: it takes 10 minutes on either of two, so that the cheaper is best.
+cheaper-of : List ℕ → List ℕ
+cheaper-of processors =
+    H-record 1 2 50 ++ processors ++ T-record 0 "one     " ++ W-record 0 0 10 ++ W-record 0 1 10 ++ bytes "Z"
+
+-- The sample S(28) with other processor records.
+pub S-with : List ℕ → List ℕ
+S-with processors = take 7 (S 28) ++ processors ++ drop 13 (S 28)
+
 pub corners : List Case
 corners =
     planned-case (near-means 1) (planned 2 1 2 8) (row 1 0 1 1 ∷ row 0 0 1 1 ∷ [])
@@ -108,12 +125,47 @@ corners =
     (row 0 0 2 0 ∷ row 1 11 15 0 ∷ row 1 0 6 0 ∷ row 1 6 10 0 ∷ [])
     ∷ planned-case two-gaps (planned 4 17 0 0) (row 0 0 2 0 ∷ row 1 5 9 0 ∷ row 1 14 17 0 ∷ row 1 0 3 0 ∷ [])
     ∷ planned-case ready-past-the-gap (planned 3 12 0 0) (row 0 0 2 0 ∷ row 1 5 9 0 ∷ row 1 9 12 0 ∷ [])
+    ∷ planned-case (billed 20 3 2 5) (planned 1 3 6 14) (row 0 0 3 6 ∷ [])
+    ∷ planned-case (billed 20 3 2 6) (planned 1 3 6 14) (row 0 0 3 6 ∷ [])
+    ∷ planned-case (billed 20 3 2 7) (planned 1 3 7 13) (row 0 0 3 7 ∷ [])
+    ∷ planned-case (billed 20 3 0 5) (planned 1 3 5 15) (row 0 0 3 5 ∷ [])
+    ∷ planned-case (billed 300 3 0 258) (planned 1 3 258 42) (row 0 0 3 258 ∷ [])
+    ∷ planned-case (billed 10_000 3 0 10_000) (planned 1 3 10_000 0) (row 0 0 3 10_000 ∷ [])
+    ∷ refused-case (billed 9_999 3 0 10_000) 9 10_000
+    ∷ refused-case (billed 20 3 0 10_001) 4 7
+    ∷ refused-case (billed 20 3 101 0) 4 7
+    ∷ refused-case (take 11 (billed 20 3 0 5)) 1 7
+    ∷ refused-case (cheaper-of (P-record 0 2 ++ Q-record 0 1 10_001)) 3 10
+    ∷ refused-case (cheaper-of (P-record 0 2 ++ Q-record 1 1 0 ++ Q-record 2 1 0)) 2 15
+    ∷ planned-case (cheaper-of (P-record 0 2 ++ Q-record 1 1 0)) (planned 1 10 10 40) (row 1 0 10 10 ∷ [])
+    ∷ planned-case (cheaper-of (P-record 0 2 ++ Q-record 1 1 19)) (planned 1 10 19 31) (row 1 0 10 19 ∷ [])
+    ∷ planned-case (cheaper-of (P-record 0 2 ++ Q-record 1 1 20)) (planned 1 10 20 30) (row 0 0 10 20 ∷ [])
+    ∷ planned-case (cheaper-of (Q-record 0 1 25 ++ P-record 1 2)) (planned 1 10 20 30) (row 1 0 10 20 ∷ [])
+    ∷ planned-case (S-with (Q-record 0 1 0 ++ Q-record 1 3 0)) (planned 3 14 26 2) (row 1 0 4 12 ∷ row 0 6 14 8 ∷ row 1 4 6 6 ∷ [])
+    ∷ planned-case (S-with (P-record 0 1 ++ Q-record 1 3 10)) (planned 3 20 26 2) (row 1 0 4 12 ∷ row 0 6 14 8 ∷ row 0 14 20 6 ∷ [])
     ∷ []
 
 pub in-corners : All-given corners
-unfolding given near-means best-past-budget equal-finishes two-tasks deadlines beside waits gap-of between-rows two-gaps ready-past-the-gap corners
+unfolding
+    given near-means best-past-budget equal-finishes two-tasks deadlines beside waits gap-of between-rows two-gaps ready-past-the-gap
+    billed cheaper-of sample S S-with corners
 in-corners =
-    (refl, (refl, (refl, (refl, (refl, (refl, (refl, (refl, (refl, (refl, (refl, (refl, (refl, (refl, (refl, (refl, (refl, (refl, (refl, tt)))))))))))))))))))
+    (refl, (refl, (refl, (refl, (refl, (refl, (refl, (refl, (refl, (refl, (refl, (refl, (refl, (refl, (refl, (refl, (refl, (refl, (refl, (refl, (refl, (refl, (refl, (refl, (refl, (refl, (refl, (refl, (refl, (refl, (refl, (refl, (refl, (refl, (refl, (refl, (refl, tt)))))))))))))))))))))))))))))))))))))
+
+-- A least amount of 7 for 3 minutes at 2 is 42 for 9 minutes at 4: of the request so multiplied, and of the multiplied workflow.
+pub minimum-multiplied :
+    (answer (billed 120 9 4 42) 64 ≡ planned 1 9 42 78)
+    × (answer-multiplied 3 2 (billed 20 3 2 7) ≡ planned 1 9 42 78)
+unfolding given billed answer-multiplied
+minimum-multiplied = (refl, refl)
+
+-- The kind that each processor was read in: a `Q` with minimum 0 is a `Q`.
+pub kinds-kept :
+    (kinds (S 28) ≡ P ∷ P ∷ [])
+    × (kinds (S-with (Q-record 0 1 0 ++ P-record 1 3)) ≡ Q ∷ P ∷ [])
+    × (kinds (S-with (P-record 0 1 ++ Q-record 1 3 10)) ≡ P ∷ Q ∷ [])
+unfolding given sample S S-with kinds-in kinds
+kinds-kept = (refl, refl, refl)
 
 -- The label lookup: a task's label, the last task's, a task that is not there, and a request refused in reading.
 pub looked-up :

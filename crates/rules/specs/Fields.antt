@@ -5,12 +5,13 @@ use lib.ListN.{getD}
 
 -- Each kind's byte, and how many bytes its body has.
 pub data Kind : Type 0 where
-  H D P T W E Z : Kind
+  H D P Q T W E Z : Kind
 
 unfoldable pub kind-byte : Kind → ℕ
 kind-byte H = 0x48
 kind-byte D = 0x44
 kind-byte P = 0x50
+kind-byte Q = 0x51
 kind-byte T = 0x54
 kind-byte W = 0x57
 kind-byte E = 0x45
@@ -20,6 +21,7 @@ unfoldable pub body : Kind → ℕ
 body H = 6
 body D = 4
 body P = 2
+body Q = 4
 body T = 9
 body W = 4
 body E = 4
@@ -56,6 +58,10 @@ P-processor s at = byte s (at + 1)
 
 unfoldable pub P-price : List ℕ → ℕ → ℕ
 P-price s at = byte s (at + 2)
+
+-- "`Q` has the body of `P` plus 2 bytes, the minimum": the processor and its price stand in a `Q` where they stand in a `P`.
+unfoldable pub Q-minimum : List ℕ → ℕ → ℕ
+Q-minimum s at = two-bytes s (at + 3)
 
 unfoldable pub T-task : List ℕ → ℕ → ℕ
 T-task s at = byte s (at + 1)

@@ -12,7 +12,7 @@ unfoldable pub multiplied-deadline : ℕ → Deadline → Deadline
 multiplied-deadline a no-deadline = no-deadline
 multiplied-deadline a (by d) = by (a * d)
 
--- Times, transfers and any deadline by a, prices by b, the budget by a times b. "Labels, edges' ends, n and m are equal."
+-- Times, transfers and any deadline by a, prices by b, minimums and the budget by a times b. "Labels, edges' ends, n and m are equal."
 unfoldable pub multiplied : ℕ → ℕ → Workflow → Workflow
 multiplied a b W =
     record {
@@ -21,6 +21,7 @@ multiplied a b W =
       budget = a * b * W .budget;
       deadline = multiplied-deadline a (W .deadline);
       price = λ j. b * W .price j;
+      minimum = λ j. a * b * W .minimum j;
       minutes = λ i j. a * W .minutes i j;
       edges = W .edges;
       from = W .from;

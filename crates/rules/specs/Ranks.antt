@@ -1,14 +1,14 @@
 -- Ranks and placing order.
-use Prim.Native.Nat.{ℕ, zero, suc, _+_, _*_}
+use Prim.Native.Nat.{ℕ, zero, suc, _+_, _*_, max}
 use mathlib.Core.Bool.{Bool, cond, not}
 use lib.Dec.{eqb}
 use Rattle.rules.specs.Folds.{sum, largest, lowest}
 use Rattle.rules.specs.Orders.{tie, higher, among, first}
 use Rattle.rules.specs.Workflow.{Workflow}
 
--- "cost(i,j) = w(i,j) x price(j)"
+-- "cost(i,j) is the larger of minimum(j) and w(i,j) x price(j)"
 unfoldable pub cost : Workflow → ℕ → ℕ → ℕ
-cost W i j = W .minutes i j * W .price j
+cost W i j = max (W .minimum j) (W .minutes i j * W .price j)
 
 -- The lowest cost of task i, and the cheapest total.
 unfoldable pub lowest-cost : Workflow → ℕ → ℕ

@@ -5,7 +5,7 @@ use mathlib.Core.List.{List}
 use lib.ListN.{length}
 use lib.Dec.{ltb, eqb}
 use Rattle.rules.specs.Fields.{D, Z, kind-byte, byte, H-tasks, H-processors, H-budget, D-deadline, E-from, E-to}
-use Rattle.rules.specs.Records.{Read, read, stopped, header-at, deadline-at, price-at, task-at, minutes-at, Edges, edge-at, end-at}
+use Rattle.rules.specs.Records.{Read, read, stopped, header-at, deadline-at, processor-at, task-at, minutes-at, Edges, edge-at, end-at}
 
 -- "a refusal is handed straight up"; what was read goes to the next step, with the place past it.
 unfoldable pub then : {A B : Type 0} → Read A → (ℕ → A → Read B) → Read B
@@ -22,15 +22,15 @@ pub data Deadline : Type 0 where
   no-deadline : Deadline
   by : ℕ → Deadline
 
--- "`H`; at most one `D`": after `H` a `D` or the first `P` is due; after a `D` only `P`.
+-- "`H`; at most one `D`": after `H` a `D` or the first processor record is due; after a `D` only that.
 unfoldable pub deadline-part : List ℕ → ℕ → Read Deadline
 deadline-part s at =
     let given = then (deadline-at s at) (λ next _. read next (by (D-deadline s at))) in
     cond (eqb (byte s at) (kind-byte D)) given (read at no-deadline)
 
--- "`P` for 0 to m-1"
+-- "`P` or `Q` for 0 to m-1"
 unfoldable pub prices-part : List ℕ → ℕ → ℕ → Read (Unit {0})
-prices-part s m at = each (price-at s) at m
+prices-part s m at = each (processor-at s) at m
 
 -- "for each task 0 to n-1 its `T` followed by `W` for processors 0 to m-1"
 unfoldable pub task-part : List ℕ → ℕ → ℕ → ℕ → Read (Unit {0})

@@ -1,18 +1,19 @@
 -- Reading one record: "Inside a record: kind (a missing byte gives 1), whole body, the 513th edge, 3, 4 in field order, 5."
 use Prim.Native.Nat.{ℕ, suc, zero, _+_}
-use mathlib.Core.Bool.{Bool, true, false, not, _&&_, _||_}
+use mathlib.Core.Bool.{Bool, true, false, cond, not, _&&_, _||_}
 use mathlib.Core.List.{List, [], _∷_, _++_}
 use lib.ListN.{length}
 use lib.Dec.{leb, ltb, eqb}
 use Rattle.label.specs.Length.{label-length}
-use Rattle.rules.specs.Fields.{Kind, H, D, P, T, W, E, Z, kind-byte, size, byte, H-tasks, H-processors, H-budget, D-deadline, P-processor}
-use Rattle.rules.specs.Fields.{P-price, T-task, T-label, W-task, W-processor, W-minutes, E-from, E-to, E-transfer}
+use Rattle.rules.specs.Fields.{Kind, H, D, P, Q, T, W, E, Z, kind-byte, size, byte, H-tasks, H-processors, H-budget, D-deadline, P-processor}
+use Rattle.rules.specs.Fields.{P-price, Q-minimum, T-task, T-label, W-task, W-processor, W-minutes, E-from, E-to, E-transfer}
 
 -- A record with its fields.
 pub data Record : Type 0 where
   header : (tasks processors budget : ℕ) → Record
   deadline : (deadline : ℕ) → Record
   price : (processor price : ℕ) → Record
+  minimum : (processor price minimum : ℕ) → Record
   task : (task label : ℕ) → Record
   minutes : (task processor minutes : ℕ) → Record
   edge : (from to transfer : ℕ) → Record
@@ -73,12 +74,24 @@ deadline-at s at =
     let d = D-deadline s at in
     record-at s at D (unless (within 1 d 200_000) 4 ∷ []) (deadline d)
 
--- The price of processor j: "price 0..100".
+-- A processor record, `P` or `Q`, is processor j's: "price 0..100". A `Q` has one more check.
+unfoldable pub price-checks : List ℕ → ℕ → ℕ → List ℕ → List ℕ
+price-checks s at j more = unless (eqb (P-processor s at) j) 3 ∷ unless (within 0 (P-price s at) 100) 4 ∷ more
+
 unfoldable pub price-at : List ℕ → ℕ → ℕ → Read Record
-price-at s at j =
-    let processor = P-processor s at in
-    let p = P-price s at in
-    record-at s at P (unless (eqb processor j) 3 ∷ unless (within 0 p 100) 4 ∷ []) (price processor p)
+price-at s at j = record-at s at P (price-checks s at j []) (price (P-processor s at) (P-price s at))
+
+-- "minimum 0..10,000"
+unfoldable pub minimum-at : List ℕ → ℕ → ℕ → Read Record
+minimum-at s at j =
+    let least = Q-minimum s at in
+    record-at s at Q
+    (price-checks s at j (unless (within 0 least 10_000) 4 ∷ []))
+    (minimum (P-processor s at) (P-price s at) least)
+
+-- "A `Q` may stand wherever a `P` is due."
+unfoldable pub processor-at : List ℕ → ℕ → ℕ → Read Record
+processor-at s at j = cond (eqb (byte s at) (kind-byte Q)) (minimum-at s at j) (price-at s at j)
 
 -- Task i: its eight bytes are a label.
 unfoldable pub task-at : List ℕ → ℕ → ℕ → Read Record

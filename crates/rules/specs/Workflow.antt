@@ -1,9 +1,9 @@
 -- The workflow that a good request's bytes mean: numbers, and functions of numbers.
-use Prim.Native.Nat.{ℕ, _+_, _*_}
+use Prim.Native.Nat.{ℕ, zero, suc, _+_, _*_}
 use mathlib.Core.Bool.{cond, _&&_}
 use mathlib.Core.List.{List}
-use lib.Dec.{ltb}
-use Rattle.rules.specs.Fields.{P, T, W, E, size, P-price, W-minutes, E-from, E-to, E-transfer}
+use lib.Dec.{ltb, eqb}
+use Rattle.rules.specs.Fields.{Kind, P, Q, T, W, E, kind-byte, size, byte, P-price, Q-minimum, W-minutes, E-from, E-to, E-transfer}
 use Rattle.rules.specs.Reading.{Deadline, Request}
 
 -- Tasks, processors and edges are numbered from 0; past the last of them each function is 0.
@@ -13,15 +13,28 @@ pub record Workflow : Type 0 where
   pub budget : ℕ
   pub deadline : Deadline
   pub price : ℕ → ℕ
+  pub minimum : ℕ → ℕ
   pub minutes : ℕ → ℕ → ℕ
   pub edges : ℕ
   pub from : ℕ → ℕ
   pub to : ℕ → ℕ
   pub transfer : ℕ → ℕ
 
+-- The kind of the processor record at `at`, and its minimum: "a `P` has minimum 0".
+unfoldable pub processor-kind : List ℕ → ℕ → Kind
+processor-kind s at = cond (eqb (byte s at) (kind-byte Q)) Q P
+
+unfoldable pub processor-minimum : List ℕ → ℕ → ℕ
+processor-minimum s at = cond (eqb (byte s at) (kind-byte Q)) (Q-minimum s at) 0
+
+-- Past the first j of the processor records that begin at `at`: each is as long as its kind, so that one walks over those before.
+unfoldable pub past-processors : List ℕ → ℕ → ℕ → ℕ
+past-processors s at zero = at
+past-processors s at (suc j) = let place = past-processors s at j in place + size (processor-kind s place)
+
 -- Where the records of a good request stand, in the order that document 01 gives them.
-unfoldable pub price-place : Request → ℕ → ℕ
-price-place r j = r .prices-at + j * size P
+unfoldable pub processor-place : List ℕ → Request → ℕ → ℕ
+processor-place s r j = past-processors s (r .prices-at) j
 
 unfoldable pub task-place : Request → ℕ → ℕ
 task-place r i = r .tasks-at + i * (size T + r .processors * size W)
@@ -32,6 +45,10 @@ minutes-place r i j = task-place r i + (size T + j * size W)
 unfoldable pub edge-place : Request → ℕ → ℕ
 edge-place r e = r .edges-at + e * size E
 
+-- The kind that processor j was read in, `P` or `Q`. The workflow has what is in force, and does not tell a `P` from a `Q` with minimum 0.
+unfoldable pub read-in : List ℕ → Request → ℕ → Kind
+read-in s r j = processor-kind s (processor-place s r j)
+
 unfoldable pub workflow : List ℕ → Request → Workflow
 workflow s r =
     record {
@@ -39,7 +56,8 @@ workflow s r =
       processors = r .processors;
       budget = r .budget;
       deadline = r .deadline;
-      price = λ j. cond (ltb j (r .processors)) (P-price s (price-place r j)) 0;
+      price = λ j. cond (ltb j (r .processors)) (P-price s (processor-place s r j)) 0;
+      minimum = λ j. cond (ltb j (r .processors)) (processor-minimum s (processor-place s r j)) 0;
       minutes = λ i j. cond (ltb i (r .tasks) && ltb j (r .processors)) (W-minutes s (minutes-place r i j)) 0;
       edges = r .edges;
       from = λ e. cond (ltb e (r .edges)) (E-from s (edge-place r e)) 0;
