@@ -10,9 +10,10 @@ use borrow.Author.Tests.{leb-true, le-leb}
 use Rattle.label.specs.Label.{Label}
 use Rattle.label.specs.Length.{label-length}
 use Rattle.label.specs.Laws.{label-length-is-length, length-is-label-length}
-use Rattle.rules.specs.Fields.{Kind, H, D, P, T, W, E, Z, body, size, byte, two-bytes, four-bytes, H-tasks, H-processors, H-budget, D-deadline}
-use Rattle.rules.specs.Fields.{P-processor, P-price, T-task, T-label, W-task, W-processor, W-minutes, E-from, E-to, E-transfer}
-use Rattle.rules.specs.Records.{Record, end, opening-by, opening, record-at, header-at, deadline-at, price-at, task-at, minutes-at, Edges, edge-at, end-at}
+use Rattle.rules.specs.Fields.{Kind, H, D, P, Q, T, W, E, Z, body, size, byte, two-bytes, four-bytes, H-tasks, H-processors, H-budget, D-deadline}
+use Rattle.rules.specs.Fields.{P-processor, P-price, Q-minimum, T-task, T-label, W-task, W-processor, W-minutes, E-from, E-to, E-transfer}
+use Rattle.rules.specs.Records.{Record, end, opening-by, opening, record-at, header-at, deadline-at, price-checks, price-at, minimum-at, processor-at}
+use Rattle.rules.specs.Records.{task-at, minutes-at, Edges, edge-at, end-at}
 
 pub record Agree (N : ℕ) (s t : List ℕ) : Type 0 where
   pub same-byte : (at : ℕ) → at < N → byte s at ≡ byte t at
@@ -65,9 +66,20 @@ module _ {N : ℕ} {s t : List ℕ} (a : Agree N s t) where
   unfolding deadline-at size body D-deadline
   deadline-agrees at h = rw (four-agree (at + 1) (omega arith)) (record-agrees at D _ _ h)
 
-  pub price-agrees : (at j : ℕ) → at + size P ≤ N → price-at s at j ≡ price-at t at j
-  unfolding price-at size body P-processor P-price
+  price-agrees : (at j : ℕ) → at + size P ≤ N → price-at s at j ≡ price-at t at j
+  unfolding price-at price-checks size body P-processor P-price
   price-agrees at j h = rw (a .same-byte (at + 1) (omega arith), a .same-byte (at + 2) (omega arith)) (record-agrees at P _ _ h)
+
+  minimum-agrees : (at j : ℕ) → at + size Q ≤ N → minimum-at s at j ≡ minimum-at t at j
+  unfolding minimum-at price-checks size body P-processor P-price Q-minimum
+  minimum-agrees at j h =
+      rw (a .same-byte (at + 1) (omega arith), a .same-byte (at + 2) (omega arith), two-agree (at + 3) (omega arith)) (record-agrees at Q _ _ h)
+
+  -- A `P` or a `Q`, of which a `Q` is the longer.
+  pub processor-agrees : (at j : ℕ) → at + size Q ≤ N → processor-at s at j ≡ processor-at t at j
+  unfolding processor-at size body
+  processor-agrees at j h =
+      rw (a .same-byte at (omega arith), minimum-agrees at j h, price-agrees at j (omega arith))
 
   pub task-agrees : (at i : ℕ) → at + size T ≤ N → task-at s at i ≡ task-at t at i
   unfolding task-at size body T-task T-label

@@ -6,14 +6,16 @@ use native.Mathlib.Omega.{arith}
 use mathlib.Core.Bool.{cond}
 use mathlib.Core.List.{List}
 use lib.Dec.{eqb}
-use Rattle.rules.specs.Fields.{D, P, T, W, E, Z, size, body, kind-byte, byte, D-deadline, E-from, E-to}
+use Rattle.rules.specs.Fields.{D, Q, T, W, E, Z, size, body, kind-byte, byte, D-deadline, E-from, E-to}
 use Rattle.rules.specs.Records.{Read, read, stopped, Edges, end-at}
 use Rattle.rules.specs.Reading.{then, each, deadline-part, prices-part, task-part, tasks-part, edges-part, nothing-after, Request}
-use Rattle.good.specs.Reading.{Steps, each-ends}
+use Rattle.rules.specs.Workflow.{past-processors}
+use Rattle.good.specs.Reading.{Walks, by-stride, each-ends}
 use Rattle.good.specs.Kinds.{task-read, edge-read}
-use Rattle.good.specs.Parts.{price-steps, minutes-steps, task-steps}
+use Rattle.good.specs.Processors.{processors-walk, past-processors-most}
+use Rattle.good.specs.Parts.{minutes-steps, task-steps}
 use Rattle.good.specs.Edges.{up-to}
-use Rattle.good.specs.Agree.{Agree, four-agree, deadline-agrees, price-agrees, task-agrees, minutes-agrees, edge-agrees, end-agrees}
+use Rattle.good.specs.Agree.{Agree, four-agree, deadline-agrees, processor-agrees, task-agrees, minutes-agrees, edge-agrees, end-agrees}
 
 -- The same step, and the same after it wherever it was read.
 pub then-agrees : {A B : Type 0} {x y : Read A} {f g : ℕ → A → Read B} →
@@ -25,14 +27,14 @@ then-agrees {A} {x} {f} {g} e same = rw (← e) (go x same)
     go (read next a) same = same next a refl
     go (stopped number place) same = refl
 
--- Of parts of d bytes each, those are the same that are the same at their places.
-each-agrees : {A : Type 0} (part other : ℕ → ℕ → Read A) (d : ℕ) → Steps part d →
-    (at k : ℕ) → ((j : ℕ) → j < k → part (at + j * d) j ≡ other (at + j * d) j) → each part at k ≡ each other at k
+-- Parts are the same that are the same at their places.
+each-agrees : {A : Type 0} {part : ℕ → ℕ → Read A} {at : ℕ} {place : ℕ → ℕ} → Walks part at place →
+    (other : ℕ → ℕ → Read A) (k : ℕ) → ((j : ℕ) → j < k → part (place j) j ≡ other (place j) j) → each part at k ≡ each other at k
 unfolding each
-each-agrees part other d steps at zero same = refl
-each-agrees part other d steps at (suc k) same =
-    then-agrees (each-agrees part other d steps at k (λ j h. same j (omega arith)))
-    (λ next _ e. then-agrees (rw (each-ends part d steps at k e) (same k (omega arith))) (λ after _ _. refl))
+each-agrees walk other zero same = refl
+each-agrees walk other (suc k) same =
+    then-agrees (each-agrees walk other k (λ j h. same j (omega arith)))
+    (λ next _ e. then-agrees (rw (each-ends walk k e) (same k (omega arith))) (λ after _ _. refl))
 
 module _ {N : ℕ} {s t : List ℕ} (a : Agree N s t) where
   pub deadline-part-agrees : (at : ℕ) → at + size D ≤ N → deadline-part s at ≡ deadline-part t at
@@ -40,9 +42,11 @@ module _ {N : ℕ} {s t : List ℕ} (a : Agree N s t) where
   deadline-part-agrees at h =
       rw (a .same-byte at (omega arith), deadline-agrees a at h, four-agree a (at + 1) (omega arith))
 
-  pub prices-agree : (m at : ℕ) → at + m * size P ≤ N → prices-part s m at ≡ prices-part t m at
+  pub prices-agree : (m at : ℕ) → at + m * size Q ≤ N → prices-part s m at ≡ prices-part t m at
   unfolding prices-part size body
-  prices-agree m at h = each-agrees _ _ (size P) (price-steps s) at m (λ j below. price-agrees a (at + j * size P) j (omega arith))
+  prices-agree m at h =
+      each-agrees (processors-walk s at) _ m
+      (λ j below. processor-agrees a (past-processors s at j) j (omega (arith, past-processors-most s at j)))
 
   task-part-agrees : (m at i : ℕ) → at + (size T + m * size W) ≤ N → task-part s m at i ≡ task-part t m at i
   unfolding task-part size body
@@ -50,13 +54,13 @@ module _ {N : ℕ} {s t : List ℕ} (a : Agree N s t) where
       then-agrees (task-agrees a at i (omega arith))
       (λ next _ e.
       let (ends, labelled) = task-read s at i e in
-      each-agrees _ _ (size W) (minutes-steps s i) next m (λ j below. minutes-agrees a (next + j * size W) i j (omega arith)))
+      each-agrees (by-stride (size W) (minutes-steps s i) next) _ m (λ j below. minutes-agrees a (next + j * size W) i j (omega arith)))
 
   pub tasks-agree : (n m at : ℕ) → at + n * (size T + m * size W) ≤ N → tasks-part s n m at ≡ tasks-part t n m at
   unfolding tasks-part
   tasks-agree n m at h =
       let d : ℕ = size T + m * size W in
-      each-agrees _ _ d (task-steps s m) at n
+      each-agrees (by-stride d (task-steps s m) at) _ n
       (λ i below. task-part-agrees m (at + i * d) i (omega (arith, suc-mul i d, mul-le-mul-right d below)))
 
   pub edges-agree : (n at : ℕ) (before : Edges) (k : ℕ) → at + k * size E ≤ N → edges-part s n at before k ≡ edges-part t n at before k

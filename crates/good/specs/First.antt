@@ -1,5 +1,5 @@
--- Reading looks at no byte from 8,385 on: past the header, deadline, prices and tasks, at most 5,820 bytes, come at most 513 records of
--- 5 bytes. So inputs that agree so far are read alike, and the first 16,384 bytes of an input are read as the whole of it.
+-- Reading looks at no byte from `looked-at-most` on: past the header, deadline, processors and tasks come at most 513 records of 5 bytes.
+-- So inputs that agree so far are read alike, and the first 16,384 bytes of an input are read as the whole of it.
 use mathlib.Core.Path.{_≡_, refl}
 use Prim.Native.Nat.{ℕ, _≤_, min}
 use native.Mathlib.Omega.{arith}
@@ -11,15 +11,17 @@ use lib.Dec.{leb}
 use borrow.Author.Tests.{leb-true, leb-false, le-leb, lt-leb}
 use Rattle.rules.specs.Fields.{size, body, byte, H-tasks, H-processors, H-budget}
 use Rattle.rules.specs.Reading.{read-request}
+use Rattle.good.specs.Ranges.{looked-at-most}
 use Rattle.good.specs.Kinds.{header-read}
+use Rattle.good.specs.Processors.{past-processors-most}
 use Rattle.good.specs.Parts.{deadline-part-read, prices-read, tasks-read}
 use Rattle.good.specs.Edges.{edges-read}
 use Rattle.good.specs.RangeLaws.{tasks-at-most}
 use Rattle.good.specs.Agree.{Agree, four-agree, header-agrees}
 use Rattle.good.specs.AgreeParts.{then-agrees, deadline-part-agrees, prices-agree, tasks-agree, edges-agree, nothing-agrees}
 
--- Inputs that agree up to 8,385 bytes or more are read alike.
-pub read-agrees : {N : ℕ} {s t : List ℕ} → Agree N s t → 8_385 ≤ N → read-request s ≡ read-request t
+-- Inputs that agree so far, or further, are read alike.
+pub read-agrees : {N : ℕ} {s t : List ℕ} → Agree N s t → looked-at-most ≤ N → read-request s ≡ read-request t
 unfolding read-request H-tasks H-processors H-budget size body
 read-agrees {N} {s} {t} a far =
     rw (← a .same-byte 1 (omega arith), ← a .same-byte 2 (omega arith), ← four-agree a 3 (omega arith))
@@ -31,7 +33,8 @@ read-agrees {N} {s} {t} a far =
     let d = deadline-part-read s after-header e₂ in
     then-agrees (prices-agree a _ prices-at (omega arith))
     (λ tasks-at _ e₃.
-    let (prices-end, price-in) = prices-read s _ prices-at e₃ in
+    let (prices-end, processor-in) = prices-read s _ prices-at e₃ in
+    let processors = past-processors-most s prices-at (H-processors s 0) in
     let tasks = tasks-at-most (h .tasks-in .to-high) (h .processors-in .to-high) in
     then-agrees (tasks-agree a _ _ tasks-at (omega arith))
     (λ edges-at _ e₄.

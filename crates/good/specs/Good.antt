@@ -7,7 +7,7 @@ use Rattle.label.specs.Label.{Label}
 use Rattle.label.specs.Length.{label-length}
 use Rattle.rules.specs.Fields.{Z, size, P-price, W-minutes, E-from, E-to, E-transfer}
 use Rattle.rules.specs.Reading.{by, Request}
-use Rattle.rules.specs.Workflow.{price-place, task-place, minutes-place, edge-place}
+use Rattle.rules.specs.Workflow.{processor-minimum, processor-place, task-place, minutes-place, edge-place}
 use Rattle.rules.specs.Labels.{label-place}
 
 -- x is from low to high.
@@ -35,10 +35,11 @@ pub record Good (s : List ℕ) (r : Request) : Type 0 where
   pub deadline-in : (d : ℕ) → r .deadline ≡ by d → Between 1 d 200_000
   pub edges-in : r .edges ≤ 512
   pub prices-begin : Between 7 (r .prices-at) 12
-  pub tasks-begin : r .tasks-at ≡ price-place r (r .processors)
+  pub tasks-begin : r .tasks-at ≡ processor-place s r (r .processors)
   pub edges-begin : r .edges-at ≡ task-place r (r .tasks)
   pub ends : length s ≡ edge-place r (r .edges) + size Z
-  pub price-in : (j : ℕ) → j < r .processors → P-price s (price-place r j) ≤ 100
+  pub price-in : (j : ℕ) → j < r .processors → P-price s (processor-place s r j) ≤ 100
+  pub minimum-in : (j : ℕ) → j < r .processors → processor-minimum s (processor-place s r j) ≤ 10_000
   pub labelled : (i : ℕ) → i < r .tasks → Label s (label-place r i) (label-length s (label-place r i))
   pub minutes-in : (i j : ℕ) → i < r .tasks → j < r .processors → Between 1 (W-minutes s (minutes-place r i j)) 2_000
   pub edge-in : (e : ℕ) → e < r .edges → GoodEdge s (r .tasks) (edge-place r e)

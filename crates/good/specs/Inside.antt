@@ -1,15 +1,16 @@
 -- Every record of a good request lies inside it, at the place that the rules compute; and there stands the number of its workflow.
 use mathlib.Core.Path.{_≡_}
-use Prim.Native.Nat.{ℕ, _+_, _*_, _<_, _≤_}
+use Prim.Native.Nat.{ℕ, suc, _+_, _*_, _<_, _≤_}
 use native.Mathlib.Nat.{suc-mul, mul-le-mul-right}
 use native.Mathlib.Omega.{arith}
 use mathlib.Core.List.{List}
 use lib.ListN.{length}
 use borrow.Author.Tests.{lt-ltb}
-use Rattle.rules.specs.Fields.{P, T, W, E, size, body, P-price, W-minutes, E-from, E-to, E-transfer}
+use Rattle.rules.specs.Fields.{T, W, E, size, body, P-price, W-minutes, E-from, E-to, E-transfer}
 use Rattle.rules.specs.Reading.{Request}
-use Rattle.rules.specs.Workflow.{price-place, task-place, minutes-place, edge-place, workflow}
+use Rattle.rules.specs.Workflow.{processor-kind, processor-minimum, past-processors, processor-place, task-place, minutes-place, edge-place, workflow}
 use Rattle.good.specs.Good.{Good}
+use Rattle.good.specs.Processors.{past-processors-rise}
 
 -- The i-th of n rows of k bytes each ends where they all do or before.
 row-inside : (i n k : ℕ) → i < n → i * k + k ≤ n * k
@@ -24,9 +25,11 @@ module _ (s : List ℕ) (r : Request) (g : Good s r) where
   unfolding task-place
   task-inside i h = omega (arith, row-inside i (r .tasks) (size T + r .processors * size W) h, g .edges-begin, edges-inside)
 
-  pub price-inside : (j : ℕ) → j < r .processors → price-place r j + size P ≤ length s
-  unfolding price-place task-place
-  price-inside j h = omega (arith, row-inside j (r .processors) (size P) h, g .tasks-begin, g .edges-begin, edges-inside)
+  pub processor-inside :
+      (j : ℕ) → j < r .processors → processor-place s r j + size (processor-kind s (processor-place s r j)) ≤ length s
+  unfolding processor-place past-processors task-place
+  processor-inside j h =
+      omega (arith, past-processors-rise s (r .prices-at) (suc j) (r .processors) h, g .tasks-begin, g .edges-begin, edges-inside)
 
   pub minutes-inside : (i j : ℕ) → i < r .tasks → j < r .processors → minutes-place r i j + size W ≤ length s
   unfolding minutes-place
@@ -37,9 +40,13 @@ module _ (s : List ℕ) (r : Request) (g : Good s r) where
   edge-inside e h = omega (arith, row-inside e (r .edges) (size E) h, g .ends)
 
 module _ (s : List ℕ) (r : Request) where
-  pub price-there : (j : ℕ) → j < r .processors → workflow s r .price j ≡ P-price s (price-place r j)
+  pub price-there : (j : ℕ) → j < r .processors → workflow s r .price j ≡ P-price s (processor-place s r j)
   unfolding workflow
   price-there j h = rw (lt-ltb _ _ h)
+
+  pub minimum-there : (j : ℕ) → j < r .processors → workflow s r .minimum j ≡ processor-minimum s (processor-place s r j)
+  unfolding workflow
+  minimum-there j h = rw (lt-ltb _ _ h)
 
   pub minutes-there : (i j : ℕ) → i < r .tasks → j < r .processors → workflow s r .minutes i j ≡ W-minutes s (minutes-place r i j)
   unfolding workflow

@@ -1,15 +1,20 @@
 -- What a record of each kind says when it was read: where the next one begins, and its numbers in their ranges.
 use mathlib.Core.Path.{_≡_}
 use Prim.Native.Nat.{ℕ, _+_, _<_, _≤_}
-use mathlib.Core.Bool.{true, and-eq-true-iff}
+use mathlib.Core.Bool.{Bool, true, false, cond, and-eq-true-iff}
 use mathlib.Core.List.{List}
 use lib.ListN.{length}
+use lib.Dec.{eqb}
+use native.Mathlib.Omega.{arith}
 use borrow.Author.Tests.{leb-true, ltb-true, eqb-false, not-true}
 use Rattle.label.specs.Label.{Label}
 use Rattle.label.specs.Length.{label-length}
 use Rattle.label.specs.Laws.{label-of-label-length}
-use Rattle.rules.specs.Fields.{H, D, P, T, W, E, Z, size, H-tasks, H-processors, H-budget, D-deadline, P-price, T-label, W-minutes, E-from, E-to}
-use Rattle.rules.specs.Records.{Record, read, within, header-at, deadline-at, price-at, task-at, minutes-at, Edges, rising, edge-ranges, edge-at, end-at}
+use Rattle.rules.specs.Fields.{H, D, P, Q, T, W, E, Z, kind-byte, size, byte, H-tasks, H-processors, H-budget, D-deadline, P-price, Q-minimum, T-label}
+use Rattle.rules.specs.Fields.{W-minutes, E-from, E-to}
+use Rattle.rules.specs.Records.{Record, read, within, header-at, deadline-at, price-checks, price-at, minimum-at, processor-at, task-at, minutes-at}
+use Rattle.rules.specs.Records.{Edges, rising, edge-ranges, edge-at, end-at}
+use Rattle.rules.specs.Workflow.{processor-kind, processor-minimum}
 use Rattle.good.specs.Good.{Between, GoodEdge}
 use Rattle.good.specs.Records.{passed, record-read}
 
@@ -46,13 +51,29 @@ deadline-read s at e =
     let found = record-read s at D _ _ e in
     (found .ends, between _ _ _ (passed _ 3 _ (found .no-fault) .0))
 
-pub price-read : (s : List ℕ) (at j : ℕ) {next : ℕ} {was : Record} →
-    price-at s at j ≡ read next was → (next ≡ at + size P) × (P-price s at ≤ 100)
-unfolding price-at
-price-read s at j e =
-    let found = record-read s at P _ _ e in
-    let (number, more) = passed _ 2 _ (found .no-fault) in
-    (found .ends, between _ _ _ (passed _ 3 _ more .0) .to-high)
+-- A processor record, `P` or `Q`.
+pub record ProcessorRead (s : List ℕ) (at next : ℕ) : Type 0 where
+  pub ends : next ≡ at + size (processor-kind s at)
+  pub price-in : P-price s at ≤ 100
+  pub minimum-in : processor-minimum s at ≤ 10_000
+
+pub processor-read : (s : List ℕ) (at j : ℕ) {next : ℕ} {was : Record} → processor-at s at j ≡ read next was → ProcessorRead s at next
+unfolding processor-at price-at minimum-at price-checks processor-kind processor-minimum
+processor-read s at j {next} {was} e =
+    let (ends, price-in, minimum-in) = go (eqb (byte s at) (kind-byte Q)) e in
+    record { ends = ends; price-in = price-in; minimum-in = minimum-in }
+  where
+    go : (t : Bool) → cond t (minimum-at s at j) (price-at s at j) ≡ read next was →
+        (next ≡ at + size (cond t Q P)) × (P-price s at ≤ 100) × (cond t (Q-minimum s at) 0 ≤ 10_000)
+    go true p =
+        let found = record-read s at Q _ _ p in
+        let (number, more) = passed _ 2 _ (found .no-fault) in
+        let (price, more) = passed _ 3 _ more in
+        (found .ends, between _ _ _ price .to-high, between _ _ _ (passed _ 3 _ more .0) .to-high)
+    go false p =
+        let found = record-read s at P _ _ p in
+        let (number, more) = passed _ 2 _ (found .no-fault) in
+        (found .ends, between _ _ _ (passed _ 3 _ more .0) .to-high, omega arith)
 
 pub task-read : (s : List ℕ) (at i : ℕ) {next : ℕ} {was : Record} →
     task-at s at i ≡ read next was → (next ≡ at + size T) × Label s (T-label at) (label-length s (T-label at))

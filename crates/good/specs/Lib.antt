@@ -3,6 +3,7 @@ pub mod Ranges
 pub mod Records
 pub mod Reading
 pub mod Kinds
+pub mod Processors
 pub mod Edges
 pub mod Parts
 pub mod ReadIsGood

@@ -1,4 +1,4 @@
--- The parts of a request that were read, each record at its place: prices, tasks with their minutes, and the deadline.
+-- The parts of a request that were read, each record at its place: processors, tasks with their minutes, and the deadline.
 use mathlib.Core.Path.{_≡_}
 use Prim.Native.Nat.{ℕ, _+_, _*_, _<_, _≤_}
 use native.Mathlib.Omega.{arith}
@@ -7,15 +7,14 @@ use mathlib.Core.List.{List}
 use lib.Dec.{eqb}
 use Rattle.label.specs.Label.{Label}
 use Rattle.label.specs.Length.{label-length}
-use Rattle.rules.specs.Fields.{D, P, T, W, size, kind-byte, byte, D-deadline, P-price, T-label, W-minutes}
-use Rattle.rules.specs.Records.{read, deadline-at, price-at, minutes-at}
+use Rattle.rules.specs.Fields.{D, T, W, size, kind-byte, byte, D-deadline, T-label, W-minutes}
+use Rattle.rules.specs.Records.{read, deadline-at, minutes-at}
 use Rattle.rules.specs.Reading.{then, Deadline, no-deadline, by, deadline-part, prices-part, task-part, tasks-part}
+use Rattle.rules.specs.Workflow.{past-processors}
 use Rattle.good.specs.Good.{Between}
-use Rattle.good.specs.Reading.{then-read, Steps, each-ends, each-part}
-use Rattle.good.specs.Kinds.{deadline-read, price-read, task-read, minutes-read}
-
-pub price-steps : (s : List ℕ) → Steps (price-at s) (size P)
-price-steps s at j next a e = price-read s at j e .0
+use Rattle.good.specs.Reading.{then-read, Steps, by-stride, each-ends, each-part}
+use Rattle.good.specs.Kinds.{deadline-read, ProcessorRead, processor-read, task-read, minutes-read}
+use Rattle.good.specs.Processors.{processors-walk}
 
 pub minutes-steps : (s : List ℕ) (i : ℕ) → Steps (λ at j. minutes-at s at i j) (size W)
 minutes-steps s i at j next a e = minutes-read s at i j e .0
@@ -31,13 +30,13 @@ unfolding task-part
 task-part-read s m at i {next} e =
     let (place, was, first, rest) = then-read _ _ e in
     let (ends, labelled) = task-read s at i first in
-    let steps = minutes-steps s i in
+    let walk = by-stride (size W) (minutes-steps s i) place in
     record {
-      ends = omega (arith, each-ends _ _ steps place m rest);
+      ends = omega (arith, each-ends walk m rest);
       labelled = labelled;
       minutes-in =
           λ j h.
-          let (after, was, here) = each-part _ _ steps place m rest j h in
+          let (after, was, here) = each-part walk m rest j h in
           let there : at + (size T + j * size W) ≡ place + j * size W = omega arith in
           rw there (minutes-read s _ i j here .1);
     }
@@ -78,18 +77,20 @@ deadline-part-read s at {next} {d} e = go (eqb (byte s at) (kind-byte D)) e
         }
 
 pub prices-read : (s : List ℕ) (m at : ℕ) {next : ℕ} → prices-part s m at ≡ read next tt →
-    (next ≡ at + m * size P) × ((j : ℕ) → j < m → P-price s (at + j * size P) ≤ 100)
+    (next ≡ past-processors s at m) × ((j : ℕ) → j < m → (after : ℕ) × ProcessorRead s (past-processors s at j) after)
 unfolding prices-part
-prices-read s m at e = (
-  each-ends _ _ (price-steps s) at m e,
-  λ j h. let (after, was, here) = each-part _ _ (price-steps s) at m e j h in price-read s _ j here .1,
-)
+prices-read s m at e =
+    let walk = processors-walk s at in (
+      each-ends walk m e,
+      λ j h. let (after, was, here) = each-part walk m e j h in (after, processor-read s _ j here),
+    )
 
 pub tasks-read : (s : List ℕ) (n m at : ℕ) {next : ℕ} → tasks-part s n m at ≡ read next tt →
     (next ≡ at + n * (size T + m * size W))
     × ((i : ℕ) → i < n → (after : ℕ) × TaskRead s m (at + i * (size T + m * size W)) after)
 unfolding tasks-part
-tasks-read s n m at e = (
-  each-ends _ _ (task-steps s m) at n e,
-  λ i h. let (after, was, here) = each-part _ _ (task-steps s m) at n e i h in (after, task-part-read s m _ i here),
-)
+tasks-read s n m at e =
+    let walk = by-stride (size T + m * size W) (task-steps s m) at in (
+      each-ends walk n e,
+      λ i h. let (after, was, here) = each-part walk n e i h in (after, task-part-read s m _ i here),
+    )

@@ -1,4 +1,4 @@
--- A good request means a workflow in range, and has at most 8,381 bytes.
+-- A good request means a workflow in range, and has at most `request-most` bytes.
 use mathlib.Core.Path.{_≡_, refl}
 use Prim.Native.Nat.{ℕ, _+_, _*_, _<_, _≤_}
 use native.Mathlib.Nat.{mul-le-mul}
@@ -9,9 +9,10 @@ use lib.ListN.{length}
 use borrow.Author.Tests.{lt-ltb, ltb-true}
 use Rattle.rules.specs.Fields.{T, W, size, body}
 use Rattle.rules.specs.Reading.{Request}
-use Rattle.rules.specs.Workflow.{workflow, price-place, task-place, edge-place}
+use Rattle.rules.specs.Workflow.{workflow, processor-place, task-place, edge-place}
 use Rattle.good.specs.Good.{Good}
-use Rattle.good.specs.Ranges.{InRange}
+use Rattle.good.specs.Ranges.{InRange, request-most}
+use Rattle.good.specs.Processors.{past-processors-most}
 
 -- What is 0 out of range is at most what it is in range.
 or-zero-at-most : {x most : ℕ} (t : Bool) → (t ≡ true → x ≤ most) → cond t x 0 ≤ most
@@ -28,6 +29,7 @@ good-in-range s r g =
       deadline-in = g .deadline-in;
       edges-in = g .edges-in;
       price-in = λ j. or-zero-at-most _ (λ below. g .price-in j (ltb-true _ _ below));
+      minimum-in = λ j. or-zero-at-most _ (λ below. g .minimum-in j (ltb-true _ _ below));
       minutes-most =
           λ i j.
           or-zero-at-most _
@@ -53,7 +55,13 @@ tasks-at-most {m} few narrow =
     let a-task : 10 + m * 5 ≤ 90 = omega arith in
     mul-le-mul few a-task
 
--- "So a good request, one not refused with 1 to 6, has at most 8,381 bytes."
-pub good-length : (s : List ℕ) (r : Request) → Good s r → length s ≤ 8_381
-unfolding price-place task-place edge-place size body
-good-length s r g = omega (arith, tasks-at-most (g .tasks-in .to-high) (g .processors-in .to-high))
+-- "So a good request, one not refused with 1 to 6, has at most 8,413 bytes."
+pub good-length : (s : List ℕ) (r : Request) → Good s r → length s ≤ request-most
+unfolding processor-place task-place edge-place size body
+good-length s r g =
+    omega (
+      arith,
+      tasks-at-most (g .tasks-in .to-high) (g .processors-in .to-high),
+      past-processors-most s (r .prices-at) (r .processors),
+      g .tasks-begin,
+    )

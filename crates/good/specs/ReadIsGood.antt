@@ -10,7 +10,7 @@ use borrow.Author.Tests.{ltb-false}
 use Rattle.rules.specs.Fields.{size, body}
 use Rattle.rules.specs.Records.{read, stopped}
 use Rattle.rules.specs.Reading.{Request, nothing-after, read-request}
-use Rattle.rules.specs.Workflow.{price-place, task-place, minutes-place, edge-place}
+use Rattle.rules.specs.Workflow.{processor-place, task-place, minutes-place, edge-place}
 use Rattle.rules.specs.Labels.{label-place}
 use Rattle.good.specs.Good.{Good}
 use Rattle.good.specs.Records.{stopped-not-read}
@@ -30,7 +30,7 @@ nothing-after-read s at r {end} {was} e = go (ltb at (length s)) refl e
     go false none p = (ltb-false at (length s) none, cc, cc)
 
 good-and-end : (s : List ℕ) {end : ℕ} {r : Request} → read-request s ≡ read end r → Good s r × (end ≡ length s)
-unfolding read-request price-place task-place minutes-place edge-place label-place size body
+unfolding read-request processor-place task-place minutes-place edge-place label-place size body
 good-and-end s {end} {r} e =
     let (after-header, was, header, e₁) = then-read _ _ e in
     let (prices-at, deadline, deadline-part, e₂) = then-read _ _ e₁ in
@@ -40,7 +40,7 @@ good-and-end s {end} {r} e =
     let (nothing, ended, same) = nothing-after-read s after-end _ e₅ in
     let h = header-read s 0 header in
     let d = deadline-part-read s after-header deadline-part in
-    let (prices-end, price-in) = prices-read s _ prices-at prices in
+    let (prices-end, processor-in) = prices-read s _ prices-at prices in
     let (tasks-end, task-in) = tasks-read s _ _ tasks-at tasks in
     let f = edges-read s _ edges-at _ 513 edges-part in (
       subst (λ r. Good s r) same
@@ -54,7 +54,8 @@ good-and-end s {end} {r} e =
             tasks-begin = prices-end;
             edges-begin = tasks-end;
             ends = omega (arith, nothing, f .counted, f .ends, f .whole);
-            price-in = price-in;
+            price-in = λ j below. processor-in j below .1 .price-in;
+            minimum-in = λ j below. processor-in j below .1 .minimum-in;
             labelled = λ i below. task-in i below .1 .labelled;
             minutes-in = λ i j below-n below-m. task-in i below-n .1 .minutes-in j below-m;
             edge-in = λ e below. f .edge-in e (omega (arith, f .counted));

@@ -34,34 +34,46 @@ module _ {A : Type 0} (part : ℕ → ℕ → Read A) where
 abbrev pub Steps : {A : Type 0} → (ℕ → ℕ → Read A) → ℕ → Type 0
 Steps {A} part d = (at j next : ℕ) (a : A) → part at j ≡ read next a → next ≡ at + d
 
-module _ {A : Type 0} (part : ℕ → ℕ → Read A) (d : ℕ) (step : Steps part d) where
+-- Where each part begins: the first at `at`, and each other where the one before it ends.
+pub record Walks {A : Type 0} (part : ℕ → ℕ → Read A) (at : ℕ) (place : ℕ → ℕ) : Type 0 where
+  pub begins : place 0 ≡ at
+  pub goes-on : (j next : ℕ) (a : A) → part (place j) j ≡ read next a → next ≡ place (suc j)
+
+pub by-stride : {A : Type 0} {part : ℕ → ℕ → Read A} (d : ℕ) → Steps part d → (at : ℕ) → Walks part at (λ j. at + j * d)
+by-stride d step at =
+    record {
+      begins = omega (arith, zero-mul d);
+      goes-on = λ j next a e. omega (arith, suc-mul j d, step (at + j * d) j next a e);
+    }
+
+module _ {A : Type 0} {part : ℕ → ℕ → Read A} {at : ℕ} {place : ℕ → ℕ} (walk : Walks part at place) where
   -- The last of the parts that were read, and where it begins.
-  last : (at k : ℕ) {next : ℕ} → each part at (suc k) ≡ read next tt →
-      (place : ℕ) × (a : A) × (each part at k ≡ read place tt) × (part place k ≡ read next a)
+  last : (k : ℕ) {next : ℕ} → each part at (suc k) ≡ read next tt →
+      (begin : ℕ) × (a : A) × (each part at k ≡ read begin tt) × (part begin k ≡ read next a)
   unfolding each
-  last at k {next} e =
-      let (place, u, before, rest) = then-read (each part at k) (λ place _. then (part place k) (λ after _. read after tt)) e in
-      let (after, a, here, done) = then-read (part place k) (λ after _. read after tt) rest in
+  last k {next} e =
+      let (begin, u, before, rest) = then-read (each part at k) (λ begin _. then (part begin k) (λ after _. read after tt)) e in
+      let (after, a, here, done) = then-read (part begin k) (λ after _. read after tt) rest in
       let same : after ≡ next = cc in
-      (place, a, before, rw same at here)
+      (begin, a, before, rw same at here)
 
-  -- k parts that were read take k * d bytes.
-  pub each-ends : (at k : ℕ) {next : ℕ} → each part at k ≡ read next tt → next ≡ at + k * d
+  -- k parts that were read end where one more would begin.
+  pub each-ends : (k : ℕ) {next : ℕ} → each part at k ≡ read next tt → next ≡ place k
   unfolding each
-  each-ends at zero {next} e =
+  each-ends zero {next} e =
       let same : at ≡ next = cc in
-      omega (arith, zero-mul d)
-  each-ends at (suc k) e =
-      let (place, a, before, here) = last at k e in
-      omega (arith, suc-mul k d, step place k _ a here, each-ends at k before)
+      omega (arith, walk .begins)
+  each-ends (suc k) {next} e =
+      let (begin, a, before, here) = last k e in
+      walk .goes-on k next a (rw (each-ends k before) at here)
 
-  -- Each of the parts that were read begins a whole number of parts past the first.
-  pub each-part : (at k : ℕ) {next : ℕ} → each part at k ≡ read next tt →
-      (j : ℕ) → j < k → (after : ℕ) × (a : A) × (part (at + j * d) j ≡ read after a)
-  each-part at zero e j h = absurd (omega arith)
-  each-part at (suc k) {next} e j h =
-      let (place, a, before, here) = last at k e in
+  -- Each of the parts that were read was read at its place.
+  pub each-part : (k : ℕ) {next : ℕ} → each part at k ≡ read next tt →
+      (j : ℕ) → j < k → (after : ℕ) × (a : A) × (part (place j) j ≡ read after a)
+  each-part zero e j h = absurd (omega arith)
+  each-part (suc k) {next} e j h =
+      let (begin, a, before, here) = last k e in
       ⊎-elim
-      (λ same. (next, a, rw same (rw (each-ends at k before) at here)))
-      (λ less. each-part at k before j less)
+      (λ same. (next, a, rw same (rw (each-ends k before) at here)))
+      (λ less. each-part k before j less)
       (eq-or-lt-of-le (le-of-suc-le-suc h))
