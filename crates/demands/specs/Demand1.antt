@@ -34,6 +34,7 @@ use Rattle.rules.specs.Rows.{Row}
 use Rattle.rules.specs.Answer.{Outcome, plan, refusal, outcome, refused, answer-of, answer, written, rows-after}
 use Rattle.rules.specs.Buffers.{Buffers, rows-lent, column-after, buffers-written, buffers-after}
 use Rattle.rules.specs.Text.{text, program}
+use Rattle.good.specs.Ranges.{request-most}
 use Rattle.good.specs.ReadIsGood.{read-is-good}
 use Rattle.good.specs.RangeLaws.{good-length}
 use Rattle.good.specs.Labels.{good-label, label-begins}
@@ -78,8 +79,8 @@ labels-are-given s {r} passes i below =
 pub no-stray-byte : (s : List ℕ) (i : ℕ) {b : ℕ} → List·Memᴰ b (label s i) → Listed b
 no-stray-byte s i = each-member Listed (label s i) (label-byte-listed s i)
 
--- "So a good request, one not refused with 1 to 6, has at most 8,381 bytes."
-pub good-request-length : (s : List ℕ) {r : Request} → PassesReading s r → length s ≤ 8_381
+-- "So a good request, one not refused with 1 to 6, has at most 8,413 bytes."
+pub good-request-length : (s : List ℕ) {r : Request} → PassesReading s r → length s ≤ request-most
 good-request-length s {r} passes = good-length s r (read-is-good s (read-iff-passes s r .1 passes .1))
 
 -- "reads at most 16,384 bytes from standard input; by the size limit its answer is that of the whole input"

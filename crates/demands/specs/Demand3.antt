@@ -31,14 +31,16 @@ use Rattle.demands.specs.Demand3.HBCSMultiplied.{HBCS-keeps-choices}
 use Rattle.demands.specs.Demand3.AnswerMultiplied.{multiplied-outcome, outcome-by-multiplied, answer-of-multiplied, written-multiplied, row-in-multiplied}
 use Rattle.demands.specs.Ground.GoodRequest.{outcome-of-good, ZeroBeyond, workflow-zero-beyond, ends-multiplied, same-everywhere}
 
--- "all times, transfers and any deadline multiplied by a whole a, prices by a whole b, the budget by a times b": W′ is W so multiplied.
--- "A request without `D` stays without one. [..] edges' ends, n and m are equal."
+-- "all times, transfers and any deadline multiplied by a whole a, prices by a whole b, minimums and the budget by a times b": W′ is W so multiplied.
+-- "A request without `D` stays without one. [..] edges' ends, n and m are equal; a `P` may stand beside a `Q` with minimum 0": what is said is said of
+-- workflows, which do not tell these two apart.
 pub record MultipliedBy (a b : ℕ) (W W′ : Workflow) : Type 0 where
   pub tasks : W′ .tasks ≡ W .tasks
   pub processors : W′ .processors ≡ W .processors
   pub budget : W′ .budget ≡ a * b * W .budget
   pub deadline : W′ .deadline ≡ multiplied-deadline a (W .deadline)
   pub price : (j : ℕ) → j < W .processors → W′ .price j ≡ b * W .price j
+  pub minimum : (j : ℕ) → j < W .processors → W′ .minimum j ≡ a * b * W .minimum j
   pub minutes : (i j : ℕ) → i < W .tasks → j < W .processors → W′ .minutes i j ≡ a * W .minutes i j
   pub edges : W′ .edges ≡ W .edges
   pub from : (e : ℕ) → e < W .edges → W′ .from e ≡ W .from e
@@ -83,6 +85,7 @@ outcome-multiplied a b pa pb s t {r = r} {r′ = r′} good good′ by {lent} {l
           budget = by .budget z;
           deadline = by .deadline z;
           price = λ j. same-everywhere (by .processors) (W′-ends .price) (ends-multiplied b (W-ends .price)) (by .price) j z;
+          minimum = λ j. same-everywhere (by .processors) (W′-ends .minimum) (ends-multiplied (a * b) (W-ends .minimum)) (by .minimum) j z;
           minutes = λ i j.
               same-everywhere (by .tasks) (W′-ends .task j) (ends-multiplied a (W-ends .task j)) (λ k l.
               same-everywhere (by .processors) (W′-ends .processor k) (ends-multiplied a (W-ends .processor k)) (λ p m. by .minutes k p l m) j) i z;

@@ -6,19 +6,33 @@ use mathlib.Core.List.{List, [], _∷_}
 use mathlib.Core.Logic.{_⊎_, inl, inr}
 use native.Mathlib.Omega.{arith}
 use lib.ListN.{length}
-use Rattle.rules.specs.Fields.{kind-byte, size, byte}
-use Rattle.demands.specs.Demand1.Wanted.{Wanted, kind-of, Room, NumbersDue, FieldsInRange, HasLabel, Whole, Passes}
-use Rattle.demands.specs.Demand1.Reads.{DueHere, nothing, IsDue, that-one, a-deadline, or-the-first-price, an-edge, or-the-end}
+use Rattle.rules.specs.Fields.{D, kind-byte, size, byte}
+use Rattle.demands.specs.Demand1.Wanted.{ProcessorKind, as-P, as-Q, Wanted, processor, kind-of, Room, NumbersDue, FieldsInRange, HasLabel, Whole, Passes}
+use Rattle.demands.specs.Demand1.Reads.{DueHere, nothing, IsDue, that-one, a-deadline, or-the-first-processor, either-kind, an-edge, or-the-end}
 use Rattle.demands.specs.Demand1.Reads.{Fault, no-kind-byte, cut-short, kind-not-due, not-the-one-due, out-of-range, no-room, bad-label, bytes-after}
+
+-- The kinds of processor records are told apart by their bytes, and from `D`.
+kinds-told : (k k′ : ProcessorKind) (j : ℕ) → kind-byte (kind-of (processor k j)) ≡ kind-byte (kind-of (processor k′ j)) → processor k j ≡ processor k′ j
+unfolding kind-byte
+kinds-told as-P as-P j e = refl
+kinds-told as-P as-Q j e = absurd (omega arith)
+kinds-told as-Q as-P j e = absurd (omega arith)
+kinds-told as-Q as-Q j e = refl
+
+no-deadline-kind : (k : ProcessorKind) (j : ℕ) → kind-byte (kind-of (processor k j)) ≡ kind-byte D → ⊥
+unfolding kind-byte
+no-deadline-kind as-P j e = omega arith
+no-deadline-kind as-Q j e = omega arith
 
 -- Of the records due no two are of one kind.
 pub due-unique : {due : DueHere} {v w : Wanted} → IsDue due v → IsDue due w → kind-byte (kind-of v) ≡ kind-byte (kind-of w) → v ≡ w
 unfolding kind-byte
 due-unique that-one that-one e = refl
 due-unique a-deadline a-deadline e = refl
-due-unique a-deadline or-the-first-price e = absurd (omega arith)
-due-unique or-the-first-price a-deadline e = absurd (omega arith)
-due-unique or-the-first-price or-the-first-price e = refl
+due-unique a-deadline (or-the-first-processor {k = k}) e = absurd (no-deadline-kind k 0 (sym e))
+due-unique (or-the-first-processor {k = k}) a-deadline e = absurd (no-deadline-kind k 0 e)
+due-unique (or-the-first-processor {k = k}) (or-the-first-processor {k = k′}) e = kinds-told k k′ 0 e
+due-unique (either-kind {k = k} {j = j}) (either-kind {k = k′}) e = kinds-told k k′ j e
 due-unique an-edge an-edge e = refl
 due-unique an-edge or-the-end e = absurd (omega arith)
 due-unique or-the-end an-edge e = absurd (omega arith)
@@ -27,7 +41,8 @@ due-unique or-the-end or-the-end e = refl
 pub nothing-not-due : {due : DueHere} {w : Wanted} → IsDue due w → due ≡ nothing → ⊥
 nothing-not-due that-one e = let z : _≡_ {A = ℕ} 0 1 = cc in omega arith
 nothing-not-due a-deadline e = let z : _≡_ {A = ℕ} 0 1 = cc in omega arith
-nothing-not-due or-the-first-price e = let z : _≡_ {A = ℕ} 0 1 = cc in omega arith
+nothing-not-due or-the-first-processor e = let z : _≡_ {A = ℕ} 0 1 = cc in omega arith
+nothing-not-due either-kind e = let z : _≡_ {A = ℕ} 0 1 = cc in omega arith
 nothing-not-due an-edge e = let z : _≡_ {A = ℕ} 0 1 = cc in omega arith
 nothing-not-due or-the-end e = let z : _≡_ {A = ℕ} 0 1 = cc in omega arith
 

@@ -4,20 +4,22 @@ use mathlib.Core.Path.{_≡_, refl, sym, _∙_}
 use mathlib.Core.Bool.{Bool, cond}
 use mathlib.Core.List.{List}
 use native.Mathlib.Omega.{arith}
-use Rattle.rules.specs.Fields.{D, Z, kind-byte, byte, H-tasks, H-processors, D-deadline}
-use Rattle.rules.specs.Records.{Read, read, Edges, deadline-at, edge-at, end-at}
+use Rattle.rules.specs.Fields.{D, Q, Z, kind-byte, byte, H-tasks, H-processors, D-deadline}
+use Rattle.rules.specs.Records.{Record, Read, read, Edges, deadline-at, price-at, minimum-at, processor-at, edge-at, end-at}
 use Rattle.rules.specs.Reading.{then, no-deadline, by, deadline-part, prices-part, task-part, tasks-part, edges-part}
 use Rattle.good.specs.Edges.{up-to}
-use Rattle.demands.specs.Demand1.Wanted.{Wanted, price, task, minutes, edge, kind-of}
-use Rattle.demands.specs.Demand1.Reads.{none-before, DueHere, only, deadline-or-price, edge-or-end, nothing, IsDue, a-deadline, or-the-first-price}
-use Rattle.demands.specs.Demand1.Reads.{an-edge, or-the-end, after-deadline, next-price, first-task, first-minutes, next-minutes, next-task, first-edge}
+use Rattle.demands.specs.Demand1.Wanted.{ProcessorKind, as-P, as-Q, Wanted, processor, task, minutes, edge, kind-of}
+use Rattle.demands.specs.Demand1.Reads.{none-before, DueHere, only, deadline-or-processor, either-processor, edge-or-end, nothing, IsDue}
+use Rattle.demands.specs.Demand1.Reads.{a-deadline, or-the-first-processor, either-kind, an-edge, or-the-end, after-deadline, next-processor}
+use Rattle.demands.specs.Demand1.Reads.{first-task, first-minutes, next-minutes, next-task, first-edge}
 use Rattle.demands.specs.Demand1.Reads.{next-edge, after-end, Comes, Stops}
 use Rattle.demands.specs.Demand1.FaultSettled.{due-unique}
 use Rattle.demands.specs.Demand1.Tells.{Tells, holds, fails, eqb-tells}
 use Rattle.demands.specs.Demand1.Goes.{Goes, on, goes-further, goes-then, goes-each}
 use Rattle.demands.specs.Demand1.ReadsSettled.{comes-inside}
+use Rattle.demands.specs.Demand1.DueAt.{Past}
 use Rattle.demands.specs.Demand1.Awaits.{Awaits, awaits-only, comes-past, awaited}
-use Rattle.demands.specs.Demand1.RecordGoes.{deadline-goes, price-goes, task-goes, minutes-goes, edge-goes, end-goes}
+use Rattle.demands.specs.Demand1.RecordGoes.{deadline-goes, price-goes, minimum-goes, task-goes, minutes-goes, edge-goes, end-goes}
 
 -- The record stands there that is due, or the other of two.
 awaits-standing :
@@ -29,18 +31,41 @@ awaits-standing {due} comes d kind =
       comes = comes;
     }
 
+-- A processor record that reading awaits, in either kind: of the records due none of another kind stands there.
+pub record AwaitsProcessor (s : List ℕ) (at j : ℕ) : Type 0 where
+  pub due : DueHere
+  pub is-due : (k : ProcessorKind) → IsDue due (processor k j)
+  pub no-other : (v : Wanted) → IsDue due v → byte s at ≡ kind-byte (kind-of v) → (k : ProcessorKind) × (v ≡ processor k j)
+  pub comes : Comes s due at
+
 module _ {s : List ℕ} {at : ℕ} where
-  awaits-price : Comes s deadline-or-price at → (byte s at ≡ kind-byte D → ⊥) → Awaits s at (price 0)
-  awaits-price comes other =
+  awaits-first : Comes s deadline-or-processor at → (byte s at ≡ kind-byte D → ⊥) → AwaitsProcessor s at 0
+  awaits-first comes other =
+      record { due = deadline-or-processor; is-due = λ k. or-the-first-processor; no-other = λ v. one; comes = comes }
+    where
+      one : {v : Wanted} → IsDue deadline-or-processor v → byte s at ≡ kind-byte (kind-of v) → (k : ProcessorKind) × (v ≡ processor k 0)
+      one a-deadline d = absurd (other d)
+      one (or-the-first-processor {k = k}) d = (k, refl)
+
+  awaits-either : {j : ℕ} → Comes s (either-processor j) at → AwaitsProcessor s at j
+  awaits-either {j} comes =
+      record { due = either-processor j; is-due = λ k. either-kind; no-other = λ v d b. one d; comes = comes }
+    where
+      one : {v : Wanted} → IsDue (either-processor j) v → (k : ProcessorKind) × (v ≡ processor k j)
+      one (either-kind {k = k}) = (k, refl)
+
+  -- No `Q` stands there, so it is a `P` that is awaited.
+  awaits-P : {j : ℕ} → AwaitsProcessor s at j → (byte s at ≡ kind-byte Q → ⊥) → Awaits s at (processor as-P j)
+  awaits-P {j} a other =
       record {
-        due = deadline-or-price;
-        here = record { inside = comes-inside comes; is-due = or-the-first-price; no-other = λ v. one };
-        comes = comes;
+        due = a .due;
+        here = record { inside = comes-inside (a .comes); is-due = a .is-due as-P; no-other = λ v d b. one v b (a .no-other v d b) };
+        comes = a .comes;
       }
     where
-      one : {v : Wanted} → IsDue deadline-or-price v → byte s at ≡ kind-byte (kind-of v) → v ≡ price 0
-      one a-deadline k = absurd (other k)
-      one or-the-first-price k = refl
+      one : (v : Wanted) → byte s at ≡ kind-byte (kind-of v) → (k : ProcessorKind) × (v ≡ processor k j) → v ≡ processor as-P j
+      one v b (as-P, e) = e
+      one v b (as-Q, e) = absurd (other (rw e at b))
 
   awaits-edge : {before : Edges} → Comes s (edge-or-end before) at → (byte s at ≡ kind-byte Z → ⊥) → Awaits s at (edge before)
   awaits-edge {before} comes other =
@@ -62,8 +87,8 @@ module _ (s : List ℕ) where
   abbrev MinutesNext : ℕ → ℕ → ℕ → Type 0
   MinutesNext i j at = (j < H-processors s 0 → Comes s (only (minutes i j)) at) × (j ≡ H-processors s 0 → TaskNext (suc i) at)
 
-  abbrev PriceNext : ℕ → ℕ → Type 0
-  PriceNext j at = (j < H-processors s 0 → Awaits s at (price j)) × (j ≡ H-processors s 0 → Comes s (only (task 0)) at)
+  abbrev ProcessorNext : ℕ → ℕ → Type 0
+  ProcessorNext j at = (j < H-processors s 0 → AwaitsProcessor s at j) × (j ≡ H-processors s 0 → Comes s (only (task 0)) at)
 
   task-part-goes :
       (i at : ℕ) → 1 ≤ H-processors s 0 → Comes s (only (task i)) at
@@ -91,32 +116,45 @@ module _ (s : List ℕ) where
       (goes-each TaskNext (H-tasks s 0) (λ l. comes, λ e. absurd (omega arith)) (λ i place l here. task-part-goes i place some (here .0 l)))
       (λ after _ q. q .1 refl)
 
+  past-processor :
+      {k : ProcessorKind} {j at next : ℕ} {r : Record} (a : Awaits s at (processor k j)) → Past s at (processor k j) next r → ProcessorNext (suc j) next
+  past-processor a p = (λ more. awaits-either (comes-past a p (next-processor more)), λ e. comes-past a p (first-task e))
+
+  processor-goes : (j at : ℕ) → AwaitsProcessor s at j → Goes (λ next _. ProcessorNext (suc j) next) (Stops s) (processor-at s at j)
+  unfolding processor-at
+  processor-goes j at a = go (eqb-tells (byte s at) (kind-byte Q))
+    where
+      go :
+          {t : Bool} → Tells (byte s at ≡ kind-byte Q) t
+          → Goes (λ next _. ProcessorNext (suc j) next) (Stops s) (cond t (minimum-at s at j) (price-at s at j))
+      go (holds kind) =
+          let b = awaits-standing (a .comes) (a .is-due as-Q) kind in
+          goes-further (awaited b (minimum-goes s at j (b .here))) (λ after _ p. past-processor b p)
+      go (fails other) =
+          let b = awaits-P a other in
+          goes-further (awaited b (price-goes s at j (b .here))) (λ after _ p. past-processor b p)
+
   pub prices-part-goes :
-      (at : ℕ) → 1 ≤ H-processors s 0 → Awaits s at (price 0)
+      (at : ℕ) → 1 ≤ H-processors s 0 → AwaitsProcessor s at 0
       → Goes (λ next _. Comes s (only (task 0)) next) (Stops s) (prices-part s (H-processors s 0) at)
   unfolding prices-part
   prices-part-goes at some first =
       goes-further
-      (goes-each PriceNext (H-processors s 0) (λ l. first, λ e. absurd (omega arith))
-      (λ j place l here.
-      let a = here .0 l in
-      goes-further (awaited a (price-goes s place j (a .here))) (λ after _ p. (
-        λ more. awaits-only (comes-past a p (next-price more)),
-        λ e. comes-past a p (first-task e),
-      ))))
+      (goes-each ProcessorNext (H-processors s 0) (λ l. first, λ e. absurd (omega arith)) (λ j place l here. processor-goes j place (here .0 l)))
       (λ after _ q. q .1 refl)
 
-  pub deadline-part-goes : (at : ℕ) → Comes s deadline-or-price at → Goes (λ next _. Awaits s next (price 0)) (Stops s) (deadline-part s at)
+  pub deadline-part-goes :
+      (at : ℕ) → Comes s deadline-or-processor at → Goes (λ next _. AwaitsProcessor s next 0) (Stops s) (deadline-part s at)
   unfolding deadline-part
   deadline-part-goes at comes = go (eqb-tells (byte s at) (kind-byte D))
     where
       go : {t : Bool} → Tells (byte s at ≡ kind-byte D) t
-          → Goes (λ next _. Awaits s next (price 0)) (Stops s)
+          → Goes (λ next _. AwaitsProcessor s next 0) (Stops s)
           (cond t (then (deadline-at s at) (λ next _. read next (by (D-deadline s at)))) (read at no-deadline))
       go (holds kind) =
           let a = awaits-standing comes a-deadline kind in
-          goes-then (awaited a (deadline-goes s at (a .here))) (λ next _ p. on (awaits-only (comes-past a p after-deadline)))
-      go (fails other) = on (awaits-price comes other)
+          goes-then (awaited a (deadline-goes s at (a .here))) (λ next _ p. on (awaits-either (comes-past a p after-deadline)))
+      go (fails other) = on (awaits-first comes other)
 
   -- So many records may come, of which the 513th at the latest is no edge that passes.
   pub edges-part-goes :

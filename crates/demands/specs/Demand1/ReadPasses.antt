@@ -1,15 +1,18 @@
 -- A record that was read passes: kind by kind.
 use Prim.Native.Nat.{ℕ}
-use mathlib.Core.Path.{_≡_}
+use mathlib.Core.Path.{_≡_, refl}
+use mathlib.Core.Bool.{Bool, true, false, cond}
 use mathlib.Core.List.{List}
 use native.Mathlib.Omega.{arith}
-use Rattle.rules.specs.Fields.{H, D, P, T, W, E, Z, H-tasks}
-use Rattle.rules.specs.Records.{Record, read, header-at, deadline-at, price-at, task-at, minutes-at, Edges, edge-at, end-at}
+use lib.Dec.{eqb}
+use Rattle.rules.specs.Fields.{H, D, P, Q, T, W, E, Z, kind-byte, byte, H-tasks}
+use Rattle.rules.specs.Records.{Record, read, header-at, deadline-at, price-at, minimum-at, processor-at, task-at, minutes-at, Edges, edge-at, end-at}
+use Rattle.rules.specs.Workflow.{processor-kind}
 use Rattle.good.specs.Records.{record-read}
-use Rattle.demands.specs.Demand1.Wanted.{header, deadline, price, task, minutes, edge, end, Passes}
+use Rattle.demands.specs.Demand1.Wanted.{ProcessorKind, as-P, as-Q, header, deadline, processor, task, minutes, edge, end, kind-of, Passes}
 use Rattle.demands.specs.Demand1.Goes.{goes-on}
 use Rattle.demands.specs.Demand1.DueAt.{only-due}
-use Rattle.demands.specs.Demand1.RecordGoes.{header-goes, deadline-goes, price-goes, task-goes, minutes-goes, edge-goes, end-goes}
+use Rattle.demands.specs.Demand1.RecordGoes.{header-goes, deadline-goes, price-goes, minimum-goes, task-goes, minutes-goes, edge-goes, end-goes}
 
 module _ (s : List ℕ) (at : ℕ) {next : ℕ} {r : Record} where
   pub header-passes : header-at s at ≡ read next r → Passes s at header
@@ -20,9 +23,20 @@ module _ (s : List ℕ) (at : ℕ) {next : ℕ} {r : Record} where
   unfolding deadline-at
   deadline-passes e = goes-on (deadline-goes s at (only-due deadline (omega (arith, record-read s at D _ _ e .whole)))) e .passes
 
-  pub price-passes : (j : ℕ) → price-at s at j ≡ read next r → Passes s at (price j)
-  unfolding price-at
-  price-passes j e = goes-on (price-goes s at j (only-due (price j) (omega (arith, record-read s at P _ _ e .whole)))) e .passes
+  -- In the kind that stands there.
+  pub processor-passes :
+      (j : ℕ) → processor-at s at j ≡ read next r
+      → (k : ProcessorKind) × (processor-kind s at ≡ kind-of (processor k j)) × Passes s at (processor k j)
+  unfolding processor-at price-at minimum-at processor-kind
+  processor-passes j e = go (eqb (byte s at) (kind-byte Q)) e
+    where
+      go :
+          (t : Bool) → cond t (minimum-at s at j) (price-at s at j) ≡ read next r
+          → (k : ProcessorKind) × (cond t Q P ≡ kind-of (processor k j)) × Passes s at (processor k j)
+      go true p =
+          (as-Q, refl, goes-on (minimum-goes s at j (only-due (processor as-Q j) (omega (arith, record-read s at Q _ _ p .whole)))) p .passes)
+      go false p =
+          (as-P, refl, goes-on (price-goes s at j (only-due (processor as-P j) (omega (arith, record-read s at P _ _ p .whole)))) p .passes)
 
   pub task-passes : (i : ℕ) → task-at s at i ≡ read next r → Passes s at (task i)
   unfolding task-at

@@ -5,34 +5,36 @@ use mathlib.Core.List.{List}
 use lib.ListN.{length}
 use Rattle.rules.specs.Fields.{kind-byte, size, byte, H-tasks, H-processors, E-from, E-to}
 use Rattle.rules.specs.Records.{Edges}
-use Rattle.demands.specs.Demand1.Wanted.{Wanted, header, deadline, price, task, minutes, edge, end, kind-of, Room, NumbersDue, FieldsInRange, HasLabel}
-use Rattle.demands.specs.Demand1.Wanted.{Whole, Passes}
+use Rattle.demands.specs.Demand1.Wanted.{ProcessorKind, Wanted, header, deadline, processor, task, minutes, edge, end, kind-of, Room, NumbersDue}
+use Rattle.demands.specs.Demand1.Wanted.{FieldsInRange, HasLabel, Whole, Passes}
 
 -- The edges before the first.
 abbrev pub none-before : Edges
 none-before = record { count = 0; from = 0; to = 0 }
 
--- What is due at a place: one record, one of two, or nothing.
+-- What is due at a place: one record, one of several, or nothing. "A `Q` may stand wherever a `P` is due."
 pub data DueHere : Type 0 where
   only : Wanted → DueHere
-  deadline-or-price : DueHere
+  deadline-or-processor : DueHere
+  either-processor : (j : ℕ) → DueHere
   edge-or-end : (before : Edges) → DueHere
   nothing : DueHere
 
 pub data IsDue : DueHere → Wanted → Type 0 where
   that-one : {w : Wanted} → IsDue (only w) w
-  a-deadline : IsDue deadline-or-price deadline
-  or-the-first-price : IsDue deadline-or-price (price 0)
+  a-deadline : IsDue deadline-or-processor deadline
+  or-the-first-processor : {k : ProcessorKind} → IsDue deadline-or-processor (processor k 0)
+  either-kind : {k : ProcessorKind} {j : ℕ} → IsDue (either-processor j) (processor k j)
   an-edge : {before : Edges} → IsDue (edge-or-end before) (edge before)
   or-the-end : {before : Edges} → IsDue (edge-or-end before) end
 
--- "Order: `H`; at most one `D`; `P` for 0 to m-1; then for each task 0 to n-1 its `T` followed by `W` for processors 0 to m-1; then any number
+-- "Order: `H`; at most one `D`; `P` or `Q` for 0 to m-1; then for each task 0 to n-1 its `T` followed by `W` for processors 0 to m-1; then any number
 -- of `E` [..]; then `Z`; then nothing": what is due after the record at `at`. n and m are the header's.
 pub data Follows (s : List ℕ) (at : ℕ) : Wanted → DueHere → Type 0 where
-  after-header : Follows s at header deadline-or-price
-  after-deadline : Follows s at deadline (only (price 0))
-  next-price : {j : ℕ} → suc j < H-processors s 0 → Follows s at (price j) (only (price (suc j)))
-  first-task : {j : ℕ} → suc j ≡ H-processors s 0 → Follows s at (price j) (only (task 0))
+  after-header : Follows s at header deadline-or-processor
+  after-deadline : Follows s at deadline (either-processor 0)
+  next-processor : {k : ProcessorKind} {j : ℕ} → suc j < H-processors s 0 → Follows s at (processor k j) (either-processor (suc j))
+  first-task : {k : ProcessorKind} {j : ℕ} → suc j ≡ H-processors s 0 → Follows s at (processor k j) (only (task 0))
   first-minutes : {i : ℕ} → Follows s at (task i) (only (minutes i 0))
   next-minutes : {i j : ℕ} → suc j < H-processors s 0 → Follows s at (minutes i j) (only (minutes i (suc j)))
   next-task : {i j : ℕ} → suc j ≡ H-processors s 0 → suc i < H-tasks s 0 → Follows s at (minutes i j) (only (task (suc i)))

@@ -1,21 +1,23 @@
 -- A record that is due either passes, and reading goes on past it, or has a fault: kind by kind.
 use Prim.Native.Nat.{ℕ, _+_}
-use mathlib.Core.Path.{refl}
+use mathlib.Core.Path.{_≡_, refl}
 use mathlib.Core.List.{List}
 use native.Mathlib.Omega.{arith}
 use lib.Dec.{leb}
 use Rattle.label.specs.Label.{Label}
 use Rattle.label.specs.Length.{label-length}
 use Rattle.label.specs.Laws.{label-length-is-length, told-by-length}
-use Rattle.rules.specs.Fields.{size, H-tasks, H-processors, H-budget, D-deadline, P-processor, P-price, T-task, T-label, W-task, W-processor}
-use Rattle.rules.specs.Fields.{W-minutes, E-from, E-to, E-transfer}
-use Rattle.rules.specs.Records.{Record, header-at, deadline-at, price-at, task-at, minutes-at, Edges, rising, edge-ranges, edge-at, end-at}
-use Rattle.good.specs.Good.{GoodEdge}
-use Rattle.demands.specs.Demand1.Wanted.{Wanted, header, deadline, price, task, minutes, edge, end, kind-of, NumbersDue, FieldsInRange, Passes}
+use Rattle.rules.specs.Fields.{size, H-tasks, H-processors, H-budget, D-deadline, P-processor, P-price, Q-minimum, T-task, T-label}
+use Rattle.rules.specs.Fields.{W-task, W-processor, W-minutes, E-from, E-to, E-transfer}
+use Rattle.rules.specs.Records.{Record, header-at, deadline-at, price-checks, price-at, minimum-at, task-at, minutes-at, Edges, rising, edge-ranges}
+use Rattle.rules.specs.Records.{edge-at, end-at}
+use Rattle.good.specs.Good.{Between, GoodEdge}
+use Rattle.demands.specs.Demand1.Wanted.{ProcessorKind, as-P, as-Q, Wanted, header, deadline, processor, task, minutes, edge, end, kind-of}
+use Rattle.demands.specs.Demand1.Wanted.{NumbersDue, FieldsInRange, Whole, Passes}
 use Rattle.demands.specs.Demand1.Reads.{DueHere, not-the-one-due, out-of-range, no-room, bad-label}
 use Rattle.demands.specs.Demand1.Tells.{Tells, told, ltb-tells, eqb-tells, not-tells, and-tells, or-tells, within-tells}
 use Rattle.demands.specs.Demand1.Goes.{Goes, goes-check, goes-checked}
-use Rattle.demands.specs.Demand1.DueAt.{DueAt, Past, Faulty, stop, opened-goes}
+use Rattle.demands.specs.Demand1.DueAt.{DueAt, Past, Faulty, stop, Own, opened-goes}
 
 past : {s : List ℕ} {at : ℕ} {w : Wanted} {r : Record} → Passes s at w → Past s at w (at + size (kind-of w)) r
 past passes = record { ends = refl; passes = passes }
@@ -45,16 +47,37 @@ module _ (s : List ℕ) (at : ℕ) where
       (λ in-range. goes-checked (past (record { whole = whole; room = tt; numbers = tt; in-range = in-range; label = tt })))
       (λ not. stop s at deadline a (out-of-range (a .is-due) whole tt tt not)))
 
-  pub price-goes : {due : DueHere} (j : ℕ) → DueAt s due at (price j) → Goes (Past s at (price j)) (Faulty s due at) (price-at s at j)
-  unfolding price-at
-  price-goes {due} j a =
-      opened-goes s at (price j) a _ _ (λ whole.
+  -- What both kinds of processor records check; then the others.
+  price-checked :
+      {due : DueHere} (k : ProcessorKind) (j : ℕ) (a : DueAt s due at (processor k j)) {more : List ℕ} {r : Record} → Whole s at (processor k j)
+      → (FieldsInRange s at (processor k j) → Between 0 (P-price s at) 100)
+      → (P-processor s at ≡ j → Between 0 (P-price s at) 100 → Own s at (processor k j) a more r)
+      → Own s at (processor k j) a (price-checks s at j more) r
+  unfolding price-checks
+  price-checked k j a whole of-fields rest =
       goes-check (eqb-tells (P-processor s at) j) 2
       (λ number.
-      goes-check (within-tells 0 (P-price s at) 100) 3
-      (λ in-range. goes-checked (past (record { whole = whole; room = tt; numbers = number; in-range = in-range; label = tt })))
-      (λ not. stop s at (price j) a (out-of-range (a .is-due) whole tt number not)))
-      (λ not. stop s at (price j) a (not-the-one-due (a .is-due) whole tt not)))
+      goes-check (within-tells 0 (P-price s at) 100) 3 (rest number)
+      (λ not. stop s at (processor k j) a (out-of-range (a .is-due) whole tt number (λ fields. not (of-fields fields)))))
+      (λ not. stop s at (processor k j) a (not-the-one-due (a .is-due) whole tt not))
+
+  pub price-goes :
+      {due : DueHere} (j : ℕ) → DueAt s due at (processor as-P j) → Goes (Past s at (processor as-P j)) (Faulty s due at) (price-at s at j)
+  unfolding price-at
+  price-goes {due} j a =
+      opened-goes s at (processor as-P j) a _ _ (λ whole.
+      price-checked as-P j a whole (λ fields. fields) (λ number price.
+      goes-checked (past (record { whole = whole; room = tt; numbers = number; in-range = price; label = tt }))))
+
+  pub minimum-goes :
+      {due : DueHere} (j : ℕ) → DueAt s due at (processor as-Q j) → Goes (Past s at (processor as-Q j)) (Faulty s due at) (minimum-at s at j)
+  unfolding minimum-at
+  minimum-goes {due} j a =
+      opened-goes s at (processor as-Q j) a _ _ (λ whole.
+      price-checked as-Q j a whole (λ fields. fields .0) (λ number price.
+      goes-check (within-tells 0 (Q-minimum s at) 10_000) 3
+      (λ least. goes-checked (past (record { whole = whole; room = tt; numbers = number; in-range = (price, least); label = tt })))
+      (λ not. stop s at (processor as-Q j) a (out-of-range (a .is-due) whole tt number (λ fields. not (fields .1))))))
 
   label-tells : (place : ℕ) → Tells ((len : ℕ) × Label s place len) (leb 1 (label-length s place))
   label-tells place =

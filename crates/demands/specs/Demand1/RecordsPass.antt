@@ -5,40 +5,46 @@ use mathlib.Core.Bool.{Bool, true, false, cond}
 use mathlib.Core.List.{List}
 use native.Mathlib.Omega.{arith}
 use lib.Dec.{eqb}
-use Rattle.rules.specs.Fields.{H, D, E, size, kind-byte, byte, D-deadline}
+use Rattle.rules.specs.Fields.{H, D, T, W, E, size, kind-byte, byte, D-deadline}
 use Rattle.rules.specs.Records.{read, deadline-at}
 use Rattle.rules.specs.Reading.{then, no-deadline, by, deadline-part, prices-part, task-part, tasks-part, edges-part}
 use Rattle.rules.specs.Reading.{Request, read-request}
-use Rattle.rules.specs.Workflow.{price-place, task-place, minutes-place, edge-place}
-use Rattle.good.specs.Reading.{then-read, each-part}
+use Rattle.rules.specs.Workflow.{processor-place, task-place, minutes-place, edge-place, read-in}
+use Rattle.good.specs.Reading.{then-read, by-stride, each-part}
 use Rattle.good.specs.Kinds.{task-read}
-use Rattle.good.specs.Parts.{price-steps, minutes-steps, task-steps}
-use Rattle.demands.specs.Demand1.Wanted.{header, deadline, price, task, minutes, edge, end, Passes}
+use Rattle.good.specs.Processors.{processors-walk}
+use Rattle.good.specs.Parts.{minutes-steps, task-steps}
+use Rattle.demands.specs.Demand1.Wanted.{ProcessorKind, header, deadline, processor, task, minutes, edge, end, kind-of, Passes}
 use Rattle.demands.specs.Demand1.Reads.{none-before}
 use Rattle.demands.specs.Demand1.PartsRead.{PartsRead, parts-were-read}
-use Rattle.demands.specs.Demand1.ReadPasses.{header-passes, deadline-passes, price-passes, task-passes, minutes-passes}
+use Rattle.demands.specs.Demand1.ReadPasses.{header-passes, deadline-passes, processor-passes, task-passes, minutes-passes}
 use Rattle.demands.specs.Demand1.EdgesPass.{edges-before, EdgesPass, edges-that-were-read-pass}
+
+-- The record of processor j, in the kind that it was read in.
+abbrev pub ProcessorPasses : List ℕ → Request → ℕ → Type 0
+ProcessorPasses s r j = (k : ProcessorKind) × (read-in s r j ≡ kind-of (processor k j)) × Passes s (processor-place s r j) (processor k j)
 
 pub record RecordsPass (s : List ℕ) (r : Request) : Type 0 where
   pub header : Passes s 0 header
   pub deadline : (d : ℕ) → r .deadline ≡ by d → Passes s (size H) deadline
-  pub prices : (j : ℕ) → j < r .processors → Passes s (price-place r j) (price j)
+  pub processors : (j : ℕ) → j < r .processors → ProcessorPasses s r j
   pub tasks : (i : ℕ) → i < r .tasks → Passes s (task-place r i) (task i)
   pub minutes : (i j : ℕ) → i < r .tasks → j < r .processors → Passes s (minutes-place r i j) (minutes i j)
   pub edges : (e : ℕ) → e < r .edges → Passes s (edge-place r e) (edge (edges-before s (r .edges-at) none-before e))
   pub end : Passes s (edge-place r (r .edges)) end
 
 module _ (s : List ℕ) (r : Request) (parts : PartsRead s r) where
-  price-stands : (j : ℕ) → j < r .processors → Passes s (price-place r j) (price j)
-  unfolding prices-part price-place
-  price-stands j l =
-      let (after, was, here) = each-part _ _ (price-steps s) (r .prices-at) (r .processors) (parts .prices-read) j l in
-      price-passes s _ j here
+  processor-stands : (j : ℕ) → j < r .processors → ProcessorPasses s r j
+  unfolding prices-part processor-place read-in
+  processor-stands j l =
+      let (after, was, here) = each-part (processors-walk s (r .prices-at)) (r .processors) (parts .prices-read) j l in
+      processor-passes s _ j here
 
   task-part-stands : (i : ℕ) → i < r .tasks → (after : ℕ) × (task-part s (r .processors) (task-place r i) i ≡ read after tt)
   unfolding tasks-part task-place
   task-part-stands i l =
-      let (after, was, here) = each-part _ _ (task-steps s (r .processors)) (r .tasks-at) (r .tasks) (parts .tasks-read) i l in
+      let walk = by-stride (size T + r .processors * size W) (task-steps s (r .processors)) (r .tasks-at) in
+      let (after, was, here) = each-part walk (r .tasks) (parts .tasks-read) i l in
       (after, here)
 
   task-stands : (i : ℕ) → i < r .tasks → Passes s (task-place r i) (task i)
@@ -54,7 +60,7 @@ module _ (s : List ℕ) (r : Request) (parts : PartsRead s r) where
       let (after, part) = task-part-stands i l in
       let (place, was, here, rest) = then-read _ _ part in
       let begins = task-read s (task-place r i) i here .0 in
-      let (after′, was′, there) = each-part _ _ (minutes-steps s i) place (r .processors) rest j m in
+      let (after′, was′, there) = each-part (by-stride (size W) (minutes-steps s i) place) (r .processors) rest j m in
       subst (λ at. Passes s at (minutes i j)) (omega arith) (minutes-passes s _ i j there)
 
   deadline-stands-there : (d : ℕ) → r .deadline ≡ by d → Passes s (size H) deadline
@@ -85,7 +91,7 @@ read-records-pass s {r = r} e =
     record {
       header = header-passes s 0 header-there;
       deadline = deadline-stands-there s r parts;
-      prices = price-stands s r parts;
+      processors = processor-stands s r parts;
       tasks = task-stands s r parts;
       minutes = minutes-stand s r parts;
       edges = λ e l. edges .edges-pass e (omega (arith, edges .counted));

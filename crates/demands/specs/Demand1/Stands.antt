@@ -8,7 +8,7 @@ use lib.ListN.{length}
 use Rattle.rules.specs.Fields.{H, D, Z, kind-byte, size, body, byte, H-tasks, H-processors, H-budget, D-deadline}
 use Rattle.rules.specs.Records.{read, deadline-at}
 use Rattle.rules.specs.Reading.{then, Deadline, no-deadline, by, deadline-part, Request, read-request}
-use Rattle.rules.specs.Workflow.{price-place, task-place, edge-place}
+use Rattle.rules.specs.Workflow.{processor-place, task-place, edge-place}
 use Rattle.good.specs.Reading.{then-read}
 use Rattle.good.specs.Kinds.{deadline-read}
 use Rattle.good.specs.ReadIsGood.{read-is-good}
@@ -22,14 +22,14 @@ pub data DeadlineStands (s : List ℕ) (d : Deadline) (prices-at : ℕ) : Type 0
       byte s (size H) ≡ kind-byte D → d ≡ by (D-deadline s (size H)) → prices-at ≡ size H + size D → DeadlineStands s d prices-at
   none : (byte s (size H) ≡ kind-byte D → ⊥) → d ≡ no-deadline → prices-at ≡ size H → DeadlineStands s d prices-at
 
--- "`P` for 0 to m-1; then for each task 0 to n-1 its `T` followed by `W` for processors 0 to m-1; then any number of `E` [..]; then `Z`; then
+-- "`P` or `Q` for 0 to m-1; then for each task 0 to n-1 its `T` followed by `W` for processors 0 to m-1; then any number of `E` [..]; then `Z`; then
 -- nothing"
 pub record Stands (s : List ℕ) (r : Request) : Type 0 where
   pub tasks : r .tasks ≡ H-tasks s 0
   pub processors : r .processors ≡ H-processors s 0
   pub budget : r .budget ≡ H-budget s 0
   pub deadline : DeadlineStands s (r .deadline) (r .prices-at)
-  pub tasks-begin : r .tasks-at ≡ price-place r (r .processors)
+  pub tasks-begin : r .tasks-at ≡ processor-place s r (r .processors)
   pub edges-begin : r .edges-at ≡ task-place r (r .tasks)
   pub ends : length s ≡ edge-place r (r .edges) + size Z
 
@@ -76,7 +76,7 @@ deadline-settled (none other d at) (none other′ d′ at′) = (d ∙ sym d′,
 
 -- The bytes settle it.
 pub stands-settled : {s : List ℕ} {r r′ : Request} → Stands s r → Stands s r′ → r ≡ r′
-unfolding price-place task-place edge-place size body
+unfolding processor-place task-place edge-place size body
 stands-settled {s} {r} {r′} one other =
     let tasks : r .tasks ≡ r′ .tasks = one .tasks ∙ sym (other .tasks) in
     let processors : r .processors ≡ r′ .processors = one .processors ∙ sym (other .processors) in

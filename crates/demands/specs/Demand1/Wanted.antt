@@ -5,16 +5,20 @@ use mathlib.Core.List.{List}
 use mathlib.Core.Logic.{_⊎_}
 use lib.ListN.{length}
 use Rattle.label.specs.Label.{Label}
-use Rattle.rules.specs.Fields.{Kind, H, D, P, T, W, E, Z, kind-byte, size, byte, H-tasks, H-processors, H-budget, D-deadline, P-processor, P-price}
-use Rattle.rules.specs.Fields.{T-task, T-label, W-task, W-processor, W-minutes, E-from, E-to}
+use Rattle.rules.specs.Fields.{Kind, H, D, P, Q, T, W, E, Z, kind-byte, size, byte, H-tasks, H-processors, H-budget, D-deadline, P-processor, P-price}
+use Rattle.rules.specs.Fields.{Q-minimum, T-task, T-label, W-task, W-processor, W-minutes, E-from, E-to}
 use Rattle.rules.specs.Records.{Edges}
 use Rattle.good.specs.Good.{Between, GoodEdge}
+
+-- The two kinds of processor records.
+pub data ProcessorKind : Type 0 where
+  as-P as-Q : ProcessorKind
 
 -- A record as it may be due: of one kind, with its number, its two numbers, or the edges before it.
 pub data Wanted : Type 0 where
   header : Wanted
   deadline : Wanted
-  price : (j : ℕ) → Wanted
+  processor : (k : ProcessorKind) (j : ℕ) → Wanted
   task : (i : ℕ) → Wanted
   minutes : (i j : ℕ) → Wanted
   edge : (before : Edges) → Wanted
@@ -23,7 +27,8 @@ pub data Wanted : Type 0 where
 abbrev pub kind-of : Wanted → Kind
 kind-of header = H
 kind-of deadline = D
-kind-of (price j) = P
+kind-of (processor as-P j) = P
+kind-of (processor as-Q j) = Q
 kind-of (task i) = T
 kind-of (minutes i j) = W
 kind-of (edge before) = E
@@ -34,7 +39,7 @@ abbrev pub Room : Wanted → Type 0
 Room (edge before) = before .count < 512
 Room header = Unit {0}
 Room deadline = Unit {0}
-Room (price j) = Unit {0}
+Room (processor k j) = Unit {0}
 Room (task i) = Unit {0}
 Room (minutes i j) = Unit {0}
 Room end = Unit {0}
@@ -42,7 +47,7 @@ Room end = Unit {0}
 -- "a number, or an edge's place in the rising order": that they are the ones due, in the record at `at`. Of an edge: "each pair (from, to) greater
 -- than the one before, by from first and then to", and the first has none before it.
 abbrev pub NumbersDue : List ℕ → ℕ → Wanted → Type 0
-NumbersDue s at (price j) = P-processor s at ≡ j
+NumbersDue s at (processor k j) = P-processor s at ≡ j
 NumbersDue s at (task i) = T-task s at ≡ i
 NumbersDue s at (minutes i j) = (W-task s at ≡ i) × (W-processor s at ≡ j)
 NumbersDue s at (edge before) =
@@ -51,12 +56,13 @@ NumbersDue s at header = Unit {0}
 NumbersDue s at deadline = Unit {0}
 NumbersDue s at end = Unit {0}
 
--- "Ranges: n 1..64, m 1..16, budget 0..20,000,000, deadline 1..200,000, price 0..100, minutes 1..2,000, transfer 0..1,000, edge ends below n and
--- unequal".
+-- "Ranges: n 1..64, m 1..16, budget 0..20,000,000, deadline 1..200,000, price 0..100, minimum 0..10,000, minutes 1..2,000, transfer 0..1,000, edge
+-- ends below n and unequal".
 abbrev pub FieldsInRange : List ℕ → ℕ → Wanted → Type 0
 FieldsInRange s at header = Between 1 (H-tasks s at) 64 × Between 1 (H-processors s at) 16 × Between 0 (H-budget s at) 20_000_000
 FieldsInRange s at deadline = Between 1 (D-deadline s at) 200_000
-FieldsInRange s at (price j) = Between 0 (P-price s at) 100
+FieldsInRange s at (processor as-P j) = Between 0 (P-price s at) 100
+FieldsInRange s at (processor as-Q j) = Between 0 (P-price s at) 100 × Between 0 (Q-minimum s at) 10_000
 FieldsInRange s at (minutes i j) = Between 1 (W-minutes s at) 2_000
 FieldsInRange s at (edge before) = GoodEdge s (H-tasks s 0) at
 FieldsInRange s at (task i) = Unit {0}
@@ -67,7 +73,7 @@ abbrev pub HasLabel : List ℕ → ℕ → Wanted → Type 0
 HasLabel s at (task i) = (len : ℕ) × Label s (T-label at) len
 HasLabel s at header = Unit {0}
 HasLabel s at deadline = Unit {0}
-HasLabel s at (price j) = Unit {0}
+HasLabel s at (processor k j) = Unit {0}
 HasLabel s at (minutes i j) = Unit {0}
 HasLabel s at (edge before) = Unit {0}
 HasLabel s at end = Unit {0}

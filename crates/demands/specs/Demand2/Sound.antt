@@ -21,7 +21,7 @@ use Rattle.demands.specs.Ground.GoodWorkflow.{GoodWorkflow}
 use Rattle.demands.specs.Demand2.Lookup.{none-placed, each-row}
 use Rattle.demands.specs.Demand2.Built.{placed-on, Built, at-first, one-more}
 
--- "Finish = start + w." "cost(i,j) = w(i,j) x price(j)"
+-- "Finish = start + w." "cost(i,j) is the larger of minimum(j) and w(i,j) x price(j)"
 pub record RowTrue (W : Workflow) (i : ℕ) (r : Row) : Type 0 where
   pub task : i < W .tasks
   pub processor : r .processor < W .processors

@@ -1,5 +1,5 @@
 -- Costs of a multiplied workflow are a times b times; paths and cycles are the same; ranks are a times, so that the placing order is the same.
-use Prim.Native.Nat.{ℕ, zero, suc, _+_, _*_, _≤_}
+use Prim.Native.Nat.{ℕ, zero, suc, _+_, _*_, _≤_, max}
 use mathlib.Core.Path.{_≡_, refl, sym, ap, ap₂, _∙_, fun-ext}
 use mathlib.Core.Bool.{Bool, cond, not}
 use native.Mathlib.Omega.{arith}
@@ -11,7 +11,7 @@ use Rattle.rules.specs.Workflow.{Workflow}
 use Rattle.rules.specs.Cycle.{linked, leads-through, back-to-itself, cyclic, lowest-in-cycle}
 use Rattle.rules.specs.Ranks.{cost, lowest-cost, cheapest-total, rank-by, rank-within, R, next-task}
 use Rattle.rules.specs.Multiplied.{multiplied}
-use Rattle.laws.specs.Numbers.{or-zero-multiplied}
+use Rattle.laws.specs.Numbers.{max-multiplied, or-zero-multiplied}
 use Rattle.laws.specs.Folds.{sum-multiplied, largest-multiplied, lowest-multiplied}
 use Rattle.laws.specs.Orders.{higher-multiplied, among-same}
 use Rattle.laws.specs.First.{first-same}
@@ -19,7 +19,8 @@ use Rattle.laws.specs.First.{first-same}
 module _ (a b : ℕ) (W : Workflow) where
   pub cost-multiplied : (i j : ℕ) → cost (multiplied a b W) i j ≡ a * b * cost W i j
   unfolding cost multiplied
-  cost-multiplied i j = omega arith
+  cost-multiplied i j =
+      ap (max (a * b * W .minimum j)) (omega arith) ∙ max-multiplied (a * b) (W .minimum j) (W .minutes i j * W .price j)
 
   pub lowest-cost-multiplied : (i : ℕ) → lowest-cost (multiplied a b W) i ≡ a * b * lowest-cost W i
   unfolding lowest-cost multiplied

@@ -55,6 +55,7 @@ two-by-two budget minutes =
       budget = budget;
       deadline = no-deadline;
       price = λ j. 1;
+      minimum = λ j. 0;
       minutes = minutes;
       edges = 0;
       from = λ e. 0;
@@ -73,6 +74,7 @@ two-by-two-in-range budget minutes most each =
       deadline-in = λ d e. let z : _≡_ {A = ℕ} 0 1 = cc in absurd (omega arith);
       edges-in = omega arith;
       price-in = λ j. omega arith;
+      minimum-in = λ j. omega arith;
       minutes-most = λ i j. each i j .to-high;
       minutes-least = λ i j l m. each i j .from-low;
       from-below = λ e l. absurd (omega arith);

@@ -1,14 +1,15 @@
--- The hypotheses of demand 3 hold of document 01's sample and its times by 3 and prices by 2: both pass reading and one is the other multiplied. And all
--- but b of at least 1 hold of the sample for nothing.
+-- The hypotheses of demand 3 hold of document 01's sample and its times by 3 and prices by 2: both pass reading and one is the other multiplied; and of the
+-- sample with a minimum, in other kinds. All but b of at least 1 hold of the sample for nothing.
 use Prim.Native.Nat.{ℕ, zero, suc, _*_, _<_}
 use mathlib.Core.Path.{_≡_, refl}
-use mathlib.Core.List.{List, []}
+use mathlib.Core.List.{List, [], _++_}
 use native.Mathlib.Omega.{arith}
 use Rattle.rules.specs.Records.{read}
 use Rattle.rules.specs.Reading.{no-deadline, Request, read-request}
 use Rattle.rules.specs.Workflow.{workflow}
 use Rattle.rules.specs.Multiplied.{multiplied-deadline}
-use Rattle.rules.specs.Cases.{given}
+use lib.ListN.{take, drop}
+use Rattle.rules.specs.Cases.{P-record, Q-record, given}
 use Rattle.rules.specs.Starred.{sample, S}
 use Rattle.demands.specs.Demand3.{MultipliedBy}
 
@@ -17,9 +18,10 @@ below-two P at-0 at-1 zero l = at-0
 below-two P at-0 at-1 (suc zero) l = at-1
 below-two P at-0 at-1 (suc (suc i)) l = absurd (omega arith)
 
-below-three : (P : ℕ → Type 0) → P 0 → P 1 → P 2 → (i : ℕ) → i < 3 → P i
-below-three P at-0 at-1 at-2 zero l = at-0
-below-three P at-0 at-1 at-2 (suc i) l = below-two (λ k. P (suc k)) at-1 at-2 i (omega arith)
+three-by-two : (P : ℕ → ℕ → Type 0) → P 0 0 → P 0 1 → P 1 0 → P 1 1 → P 2 0 → P 2 1 → (i j : ℕ) → i < 3 → j < 2 → P i j
+three-by-two P of-0 of-0′ of-1 of-1′ of-2 of-2′ zero j l m = below-two (P 0) of-0 of-0′ j m
+three-by-two P of-0 of-0′ of-1 of-1′ of-2 of-2′ (suc i) j l m =
+    below-two (λ k. P (suc k) j) (below-two (P 1) of-1 of-1′ j m) (below-two (P 2) of-2 of-2′ j m) i (omega arith)
 
 -- What reading makes of the sample with this budget.
 sampled : ℕ → Request
@@ -47,11 +49,12 @@ both-good :
     let W′ = workflow (by a b budget) (sampled budget) in
     read-request (by a b budget) ≡ read 84 (sampled budget) → budget ≡ a * b * 28
     → ((j : ℕ) → j < 2 → W′ .price j ≡ b * W .price j)
-    → ((i : ℕ) → i < 3 → (j : ℕ) → j < 2 → W′ .minutes i j ≡ a * W .minutes i j)
+    → ((j : ℕ) → j < 2 → W′ .minimum j ≡ a * b * W .minimum j)
+    → ((i j : ℕ) → i < 3 → j < 2 → W′ .minutes i j ≡ a * W .minutes i j)
     → ((e : ℕ) → e < 2 → W′ .transfer e ≡ a * W .transfer e)
     → BothGood a b (S 28) (by a b budget)
 unfolding given sample S sampled multiplied-deadline
-both-good a b budget reads product price minutes transfer =
+both-good a b budget reads product price minimum minutes transfer =
     record {
       end = 84;
       end′ = 84;
@@ -65,7 +68,8 @@ both-good a b budget reads product price minutes transfer =
         budget = product;
         deadline = refl;
         price = price;
-        minutes = λ i j l m. minutes i l j m;
+        minimum = minimum;
+        minutes = minutes;
         edges = refl;
         from = below-two _ refl refl;
         to = below-two _ refl refl;
@@ -79,9 +83,44 @@ tripled = by 3 2 168
 pub sample-both-good : BothGood 3 2 (S 28) tripled
 unfolding given sample S sampled
 sample-both-good =
-    both-good 3 2 168 refl refl (below-two _ refl refl)
-    (below-three _ (below-two _ refl refl) (below-two _ refl refl) (below-two _ refl refl))
+    both-good 3 2 168 refl refl (below-two _ refl refl) (below-two _ refl refl)
+    (three-by-two _ refl refl refl refl refl refl)
     (below-two _ refl refl)
+
+-- With other processor records: a minimum of 10 beside one of 60, and a `P` beside a `Q` with minimum 0.
+abbrev with-processors : List ℕ → List ℕ → List ℕ
+with-processors processors s = take 7 s ++ processors ++ drop 13 s
+
+abbrev pub once-with-minimum : List ℕ
+once-with-minimum = with-processors (P-record 0 1 ++ Q-record 1 3 10) (S 28)
+
+abbrev pub tripled-with-minimum : List ℕ
+tripled-with-minimum = with-processors (Q-record 0 2 0 ++ Q-record 1 6 60) tripled
+
+pub minimum-both-good : BothGood 3 2 once-with-minimum tripled-with-minimum
+unfolding given sample S multiplied-deadline
+minimum-both-good =
+    record {
+      end = 86;
+      end′ = 88;
+      r = record { tasks = 3; processors = 2; budget = 28; deadline = no-deadline; prices-at = 7; tasks-at = 15; edges-at = 75; edges = 2 };
+      r′ = record { tasks = 3; processors = 2; budget = 168; deadline = no-deadline; prices-at = 7; tasks-at = 17; edges-at = 77; edges = 2 };
+      good = refl;
+      good′ = refl;
+      multiplied = record {
+        tasks = refl;
+        processors = refl;
+        budget = refl;
+        deadline = refl;
+        price = below-two _ refl refl;
+        minimum = below-two _ refl refl;
+        minutes = three-by-two _ refl refl refl refl refl refl;
+        edges = refl;
+        from = below-two _ refl refl;
+        to = below-two _ refl refl;
+        transfer = below-two _ refl refl;
+      };
+    }
 
 -- Prices and the budget multiplied by 0.
 abbrev pub for-nothing : List ℕ
@@ -90,6 +129,6 @@ for-nothing = by 1 0 0
 pub for-nothing-both-good : BothGood 1 0 (S 28) for-nothing
 unfolding given sample S sampled
 for-nothing-both-good =
-    both-good 1 0 0 refl refl (below-two _ refl refl)
-    (below-three _ (below-two _ refl refl) (below-two _ refl refl) (below-two _ refl refl))
+    both-good 1 0 0 refl refl (below-two _ refl refl) (below-two _ refl refl)
+    (three-by-two _ refl refl refl refl refl refl)
     (below-two _ refl refl)

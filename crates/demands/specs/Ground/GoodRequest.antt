@@ -42,6 +42,7 @@ same-everywhere {l = l} {f = f} {g = g} e f-ends g-ends same i = go (decLt i l)
 
 pub record ZeroBeyond (W : Workflow) : Type 0 where
   pub price : Ends (W .processors) (W .price)
+  pub minimum : Ends (W .processors) (W .minimum)
   pub task : (j : ℕ) → Ends (W .tasks) (λ i. W .minutes i j)
   pub processor : (i : ℕ) → Ends (W .processors) (W .minutes i)
   pub from : Ends (W .edges) (W .from)
@@ -56,6 +57,7 @@ unfolding workflow
 workflow-zero-beyond s r =
     record {
       price = λ j. cond-past j (r .processors) _;
+      minimum = λ j. cond-past j (r .processors) _;
       task = λ j i l. rw (le-ltb i (r .tasks) l);
       processor = λ i j l. rw (le-ltb j (r .processors) l, and-false (ltb i (r .tasks)));
       from = λ e. cond-past e (r .edges) _;
