@@ -1,8 +1,8 @@
 -- Demand 2: the plan is the method's. Stated of what the caller gets: the answer, and the rows after the call, in lent rows or in four buffers.
 -- Below: what is due for a workflow, refusals too (`WhatIsDue`), and that it is settled (`DueSettled`); the order of the tasks (`PlacingOrder`); the choice
 -- for each in document 01's words (`ChoiceAsWritten`) and as equation (10) (`Worthiness`), and that one can always be taken (`Affordable`); the start of
--- each in document 02's words (`StartAsWritten`); R and HEFT's rank (`HEFTRank`, `HEFTSettled`); when money is the reason (`RefusalNine`). The other files
--- are what these rest on.
+-- each in document 02's words (`StartAsWritten`), and its cost by the record of its processor (`CostAsWritten`); R and HEFT's rank (`HEFTRank`,
+-- `HEFTSettled`); when money is the reason (`RefusalNine`). The other files are what these rest on.
 pub mod Lookup
 pub mod Refusals
 pub mod HBCSChoice
@@ -25,6 +25,7 @@ pub mod HEFTRank
 pub mod HEFTSettled
 pub mod ChoiceAsWritten
 pub mod StartAsWritten
+pub mod CostAsWritten
 use Prim.Native.Nat.{ℕ, _+_, _-_, _≤_, _<_}
 use mathlib.Core.Path.{_≡_, refl, sym, ap, subst, _∙_}
 use mathlib.Core.Bool.{false}
