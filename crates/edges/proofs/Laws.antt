@@ -1,4 +1,4 @@
--- What the first fault among an edge's checks answers, and that a kind byte stands in the input.
+-- The first fault among an edge's checks, and that a kind byte stands in the input.
 use mathlib.Core.Path.{_≡_, refl}
 use Prim.Native.Nat.{ℕ, zero, suc, _<_}
 use native.Mathlib.Omega.{arith}
@@ -8,7 +8,7 @@ use lib.ListN.{length, List·getD-eq-default}
 use lib.Dec.{leb}
 use borrow.Author.Tests.{leb-true, leb-false}
 use Rattle.rules.specs.Fields.{byte}
-use Rattle.rules.specs.Records.{Record, read, stopped, first-fault, answered}
+use Rattle.rules.specs.Records.{first-fault}
 
 -- A byte that is not 0 stands in the input.
 pub byte-there : (s : List ℕ) (at : ℕ) {b : ℕ} → byte s at ≡ suc b → at < length s
@@ -28,17 +28,3 @@ fault-here (suc number) checks fails = refl
 pub fault-later : (check : ℕ) (checks : List ℕ) → check ≡ 0 → first-fault checks ≡ first-fault (check ∷ checks)
 unfolding first-fault
 fault-later check checks holds = rw holds
-
--- What the first fault answers.
-pub answers-refusal : {fault first : ℕ} (at next : ℕ) (r : Record) →
-    fault ≡ first → (fault ≡ 0 → ⊥) → stopped fault at ≡ answered first at next r
-unfolding answered
-answers-refusal {fault} at next r same fails = rw (← same) (go fault fails)
-  where
-    go : (f : ℕ) → (f ≡ 0 → ⊥) → stopped f at ≡ answered f at next r
-    go zero fails = absurd (fails refl)
-    go (suc number) fails = refl
-
-pub answers-record : {first : ℕ} (at next : ℕ) {r r′ : Record} → first ≡ 0 → r ≡ r′ → read next r ≡ answered first at next r′
-unfolding answered
-answers-record at next none same = rw (none, same)

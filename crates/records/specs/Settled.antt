@@ -2,7 +2,7 @@
 use mathlib.Core.Path.{_≡_, refl, sym, _∙_, ap}
 use Rattle.rules.specs.Records as rules
 use Rattle.records.specs.declared.Record.{Record}
-use Rattle.records.specs.declared.Record.the-variants.{Header, Deadline, Price, Task, Minutes, Edge, End}
+use Rattle.records.specs.declared.Record.the-variants.{Header, Deadline, Price, Minimum, Task, Minutes, Edge, End}
 use Rattle.records.specs.declared.RecordAnswer.{RecordAnswer}
 use Rattle.records.specs.declared.RecordAnswer.the-variants.{Read, Refused}
 use Rattle.records.specs.Meaning.{meant-record, meant}
@@ -12,6 +12,7 @@ record-for : rules.Record → Record
 record-for (rules.header tasks processors budget) = Header tasks processors budget
 record-for (rules.deadline deadline) = Deadline deadline
 record-for (rules.price processor price) = Price processor price
+record-for (rules.minimum processor price minimum) = Minimum processor price minimum
 record-for (rules.task task label) = Task task label
 record-for (rules.minutes task processor minutes) = Minutes task processor minutes
 record-for (rules.edge from to transfer) = Edge from to transfer
@@ -26,6 +27,7 @@ unfolding record-for
 record-again (Header tasks processors budget) = refl
 record-again (Deadline deadline) = refl
 record-again (Price processor price) = refl
+record-again (Minimum processor price minimum) = refl
 record-again (Task task label) = refl
 record-again (Minutes task processor minutes) = refl
 record-again (Edge from to transfer) = refl

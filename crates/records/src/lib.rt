@@ -1,7 +1,11 @@
 // Reads one record of a request: the record with its fields and the cursor past it, or a refusal with its place.
 ghost use mathlib.Core.Path.{_≡_};
+ghost use Prim.Native.Nat.{_+_, _≤_};
+ghost use mathlib.Core.List.{[], _++_};
+ghost use lib.ListN.{length};
 ghost use Rattle.rules.specs.Fields.{byte};
-ghost use Rattle.rules.specs.Records.{header-at, deadline-at, price-at, task-at, minutes-at};
+ghost use Rattle.rules.specs.Records.{first-fault, opening-by, price-checks};
+ghost use Rattle.rules.specs.Records.{header-at, deadline-at, price-at, minimum-at, processor-at, task-at, minutes-at};
 ghost use Rattle.records.specs.Meaning.{meant};
 
 // Where a record begins.
@@ -22,6 +26,11 @@ pub enum Record {
     Price {
         processor: usize,
         price: u64,
+    },
+    Minimum {
+        processor: usize,
+        price: u64,
+        minimum: u64,
     },
     Task {
         task: usize,
@@ -101,24 +110,72 @@ pub fn read_deadline(s: &[u8], c: Cursor) -> RecordAnswer
     RecordAnswer::Read(Cursor { at: at + 5 }, Record::Deadline { deadline })
 }
 
+// What is wrong with the processor record of this kind at `at`, by what `P` and `Q` share: its opening, then 3 where another processor is due, then 4
+// where its price is not in 0..100; 0 where nothing is.
+fn price_fault(s: &[u8], at: usize, kind: u8, size: usize, due: usize) -> u64
+    requires { ⌜ 3 ≤ size ⌝ }
+    ensures { λ r. ⌜ (r ≡ first-fault (opening-by (now (s .entry)) at kind size ++ price-checks (now (s .entry)) at due [])) × (r ≡ 0 → at + size ≤ length (now (s .entry))) ⌝ }
+{
+    let fault = fields::opening_fault(s, at, kind, size);
+    if fault != 0 {
+        return fault;
+    }
+    if fields::field(s, at, 1) != due {
+        return 3;
+    }
+    if fields::outside(0, fields::field(s, at, 2) as u64, 100) {
+        return 4;
+    }
+    0
+}
+
 // `P` of the processor that is due: price 0..100.
-pub fn read_price(s: &[u8], c: Cursor, due: usize) -> RecordAnswer
+fn read_price(s: &[u8], c: Cursor, due: usize) -> RecordAnswer
     ensures { λ r. ⌜ meant r ≡ price-at (now (s .entry)) (c .at) due ⌝ }
 {
     let at = c.at;
-    let fault = fields::opening_fault(s, at, b'P', 3);
+    let fault = price_fault(s, at, b'P', 3, due);
     if fault != 0 {
         return RecordAnswer::Refused(fault, at);
     }
     let processor = fields::field(s, at, 1);
     let price = fields::field(s, at, 2) as u64;
-    if processor != due {
-        return RecordAnswer::Refused(3, at);
+    RecordAnswer::Read(Cursor { at: at + 3 }, Record::Price { processor, price })
+}
+
+// `Q` of the processor that is due: price 0..100, minimum 0..10,000.
+fn read_minimum(s: &[u8], c: Cursor, due: usize) -> RecordAnswer
+    ensures { λ r. ⌜ meant r ≡ minimum-at (now (s .entry)) (c .at) due ⌝ }
+{
+    let at = c.at;
+    let fault = price_fault(s, at, b'Q', 5, due);
+    if fault != 0 {
+        return RecordAnswer::Refused(fault, at);
     }
-    if fields::outside(0, price, 100) {
+    let processor = fields::field(s, at, 1);
+    let price = fields::field(s, at, 2) as u64;
+    let minimum = fields::two_bytes(s, at, 3);
+    if fields::outside(0, minimum, 10_000) {
         return RecordAnswer::Refused(4, at);
     }
-    RecordAnswer::Read(Cursor { at: at + 3 }, Record::Price { processor, price })
+    RecordAnswer::Read(
+        Cursor { at: at + 5 },
+        Record::Minimum {
+            processor,
+            price,
+            minimum,
+        },
+    )
+}
+
+// A `Q`, where one stands there, or else the `P` of the processor that is due.
+pub fn read_processor(s: &[u8], c: Cursor, due: usize) -> RecordAnswer
+    ensures { λ r. ⌜ meant r ≡ processor-at (now (s .entry)) (c .at) due ⌝ }
+{
+    if kind(s, c) == b'Q' {
+        return read_minimum(s, c, due);
+    }
+    read_price(s, c, due)
 }
 
 // `T` of the task that is due, with its label.

@@ -6,8 +6,8 @@ use lib.ListN.{length}
 use borrow.Author.Tests.{lt-ltb, le-ltb}
 use Rattle.rules.specs.Fields.{E, kind-byte, body, size, E-from, E-to, E-transfer}
 use Rattle.rules.specs.Records.{unless, first-fault, answered, rising, edge, edge-at}
-use Rattle.records.proofs.Laws.{refused-at-opening, answered-by-its-own}
-use Rattle.edges.proofs.Laws.{answers-refusal, answers-record, fault-here, fault-later}
+use Rattle.records.proofs.Laws.{refused-at-opening, answered-by-its-own, answers-refusal, answers-record}
+use Rattle.edges.proofs.Laws.{fault-here, fault-later}
 use Rattle.edges.specs.Meaning.{meant-edges}
 use native.Mathlib.Omega.{arith}
 use borrow.Author.Needs.{needs}
