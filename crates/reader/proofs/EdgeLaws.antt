@@ -28,7 +28,7 @@ module _ (s : List ℕ) (n at : ℕ) (before : Edges) (k : ℕ) where
       go true e = rw (← e)
       go false e = rw (← e)
 
-  pub edges-ended : {next : ℕ} {found : Record} → read next found ≡ edge-or-end-at s at n before → (tag found ≡ 5 → ⊥) →
+  pub edges-ended : {next : ℕ} {found : Record} → read next found ≡ edge-or-end-at s at n before → (tag found ≡ 6 → ⊥) →
       read next (before .count) ≡ edges-part s n at before (suc k)
   unfolding edges-part edge-or-end-at then after
   edges-ended {next} {found} e other = go (eqb (byte s at) (kind-byte Z)) e
@@ -45,7 +45,7 @@ module _ (s : List ℕ) (n at : ℕ) (before : Edges) (k : ℕ) where
     where
       go : (t : Bool) → eqb (byte s at) (kind-byte Z) ≡ t → read next (edge from to transfer) ≡ cond t (end-at s at) (edge-at s at n before) →
           (eqb (byte s at) (kind-byte Z) ≡ false) × (read next (edge from to transfer) ≡ edge-at s at n before)
-      go true is e = let z : _≡_ {A = ℕ} 5 6 = ap tag (end-found s at e) in absurd (omega arith)
+      go true is e = let z : _≡_ {A = ℕ} 6 7 = ap tag (end-found s at e) in absurd (omega arith)
       go false is e = (is, e)
 
   pub edges-more : {next from to transfer : ℕ} → read next (edge from to transfer) ≡ edge-or-end-at s at n before →

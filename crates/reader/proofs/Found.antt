@@ -10,7 +10,7 @@ use Rattle.rules.specs.Records as rules
 use Rattle.good.specs.Records.{record-read}
 use Rattle.records.proofs.Record.{the-type}
 use Rattle.records.specs.declared.Record.{Record}
-use Rattle.records.specs.declared.Record.the-variants.{Header, Deadline, Price, Task, Minutes, Edge, End}
+use Rattle.records.specs.declared.Record.the-variants.{Header, Deadline, Price, Minimum, Task, Minutes, Edge, End}
 use Rattle.records.specs.Meaning.{meant-record}
 
 -- The number by which the code tells a record's case.
@@ -18,15 +18,17 @@ abbrev pub tag : rules.Record → ℕ
 tag (rules.header n m b) = 0
 tag (rules.deadline d) = 1
 tag (rules.price j p) = 2
-tag (rules.task i l) = 3
-tag (rules.minutes i j w) = 4
-tag (rules.edge i k w) = 5
-tag rules.end = 6
+tag (rules.minimum j p l) = 3
+tag (rules.task i l) = 4
+tag (rules.minutes i j w) = 5
+tag (rules.edge i k w) = 6
+tag rules.end = 7
 
 tag-kept : (found : Record) → tagOf the-type found ≡ tag (meant-record found)
 tag-kept (Header n m b) = refl
 tag-kept (Deadline d) = refl
 tag-kept (Price j p) = refl
+tag-kept (Minimum j p l) = refl
 tag-kept (Task i l) = refl
 tag-kept (Minutes i j w) = refl
 tag-kept (Edge i k w) = refl

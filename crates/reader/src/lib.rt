@@ -64,14 +64,14 @@ fn read_deadline(s: &[u8], c: Cursor) -> DeadlinePart
     }
 }
 
-// The prices of processors 0 to m - 1.
+// The records of processors 0 to m - 1, each a `P` or a `Q`.
 fn read_prices(s: &[u8], c: Cursor, m: usize) -> Passed
     ensures { λ r. ⌜ meant-part r tt ≡ prices-part (now (s .entry)) m (c .at) ⌝ }
 {
     let mut next = c;
     let mut j = 0;
     while j < m {
-        let answer = records::read_price(s, next, j);
+        let answer = records::read_processor(s, next, j);
         let RecordAnswer::Read(after, _) = answer else {
             return handed_up(answer);
         };
@@ -176,7 +176,8 @@ fn read_edges(s: &[u8], c: Cursor, n: usize) -> EdgesPart
     }
 }
 
-// A good request: its numbers, and where its parts begin. Prices, minutes and edges are read where they stand.
+// A good request: its numbers, and where its parts begin. Minutes and edges are read where they stand; one walks over the processor records, each as
+// long as its kind.
 pub struct View {
     pub tasks: usize,
     pub processors: usize,

@@ -59,11 +59,11 @@ returns-2 c =
     let loop-test = c .before .before .before .before .before .loop-test in
     let read-edge-or-end = c .before .before .before .before .read-edge-or-end in
     let answer = c .before .before .answer in
-    let others : List ℕ = 0 ∷ 1 ∷ 2 ∷ 3 ∷ 4 ∷ 6 ∷ [] in
+    let others : List ℕ = 0 ∷ 1 ∷ 2 ∷ 3 ∷ 4 ∷ 5 ∷ 7 ∷ [] in
     let told = due-among others (answer .given .0 .1 .0) refl (c .match2 .keys2) in
     edges-ended (a .s .now) (a .n) (loop .next .at) (meant-edges (loop .before)) (loop .left - 1)
     (sym (ap meant (answer .given .1)) ∙ read-edge-or-end .ensures)
-    (λ five. miss others 5 tt (subst (OneOf others) five told)) ∙
+    (λ six. miss others 6 tt (subst (OneOf others) six told)) ∙
     one-due _ _ _ _ _ (loop-test .taken) (loop .inv .0)
 
 add-t15 : tie.Need-add-t15 Inv-loop μ-loop

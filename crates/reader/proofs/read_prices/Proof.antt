@@ -1,7 +1,7 @@
--- The loop has read the first j prices, up to the cursor.
+-- The loop has read the first j processor records, up to the cursor.
 use mathlib.Core.Path.{ap}
 use Prim.Native.Nat.{_-_}
-use Rattle.rules.specs.Records.{price-at}
+use Rattle.rules.specs.Records.{processor-at}
 use Rattle.rules.specs.Reading.{prices-part}
 use Rattle.records.specs.Meaning.{meant}
 use Rattle.reader.proofs.Laws.{Reached, none-reached, one-more-reached, refused-there, all-reached}
@@ -11,7 +11,7 @@ use Rattle.reader.proofs.read_prices.Statement.{statement}
 use Rattle.reader.proofs.read_prices.Tie as tie
 
 abbrev Inv-loop : tie.InvT-loop
-Inv-loop s m next₀ j₀ next j = Reached (price-at s) (next₀ .at) m j (next .at)
+Inv-loop s m next₀ j₀ next j = Reached (processor-at s) (next₀ .at) m j (next .at)
 
 abbrev μ-loop : tie.MeasureT-loop
 μ-loop s m next₀ j₀ next j = m - j
@@ -19,8 +19,8 @@ abbrev μ-loop : tie.MeasureT-loop
 loop-holds : tie.Need-loop-holds Inv-loop μ-loop
 loop-holds c = none-reached
 
-read-price-requires : tie.Need-read-price-requires Inv-loop μ-loop
-read-price-requires c κs = search needs
+read-processor-requires : tie.Need-read-processor-requires Inv-loop μ-loop
+read-processor-requires c κs = search needs
 
 enum-known-answer : tie.Need-enum-known-answer Inv-loop μ-loop
 enum-known-answer c = search needs
@@ -36,7 +36,7 @@ unfolding prices-part
 returns c =
     let answered = c .before .before .before in
     rw (c .handed-up .ensures, c .before .enum-told .given .1)
-    (refused-there (answered .before .before .loop .inv) (answered .before .loop-test .taken) (answered .read-price .ensures)
+    (refused-there (answered .before .before .loop .inv) (answered .before .loop-test .taken) (answered .read-processor .ensures)
     (ap meant (c .before .enum-told .given .1)))
 
 add-j : tie.Need-add-j Inv-loop μ-loop
@@ -48,7 +48,7 @@ loop-less c = omega arith
 loop-again : tie.Need-loop-again Inv-loop μ-loop
 loop-again c =
     let answered = c .before .before .before in
-    one-more-reached (answered .before .before .loop .inv) (answered .before .loop-test .taken) (answered .read-price .ensures)
+    one-more-reached (answered .before .before .loop .inv) (answered .before .loop-test .taken) (answered .read-processor .ensures)
     (ap meant (c .before .answer .given .1))
 
 returns-2 : tie.Need-returns-2 Inv-loop μ-loop
@@ -62,7 +62,7 @@ read-prices-spec =
     Inv-loop
     μ-loop
     loop-holds
-    read-price-requires
+    read-processor-requires
     enum-known-answer
     enum-told
     handed-up-requires

@@ -105,7 +105,7 @@ returns-2 c =
     let read-header = c .before .before .before .before .before .before .read-header in
     let answer = c .before .before .before .before .answer in
     let match2 = c .before .before .match2 in
-    absurd (miss (1 ∷ 2 ∷ 3 ∷ 4 ∷ 5 ∷ 6 ∷ []) 0 tt (due-among (1 ∷ 2 ∷ 3 ∷ 4 ∷ 5 ∷ 6 ∷ []) (answer .given .0 .1 .0)
+    absurd (miss (1 ∷ 2 ∷ 3 ∷ 4 ∷ 5 ∷ 6 ∷ 7 ∷ []) 0 tt (due-among (1 ∷ 2 ∷ 3 ∷ 4 ∷ 5 ∷ 6 ∷ 7 ∷ []) (answer .given .0 .1 .0)
     (header-found (a .s .now) 0 (sym (ap meant (answer .given .1)) ∙ read-header .ensures)) (match2 .keys2)))
 
 read-deadline-requires : tie.Need-read-deadline-requires
