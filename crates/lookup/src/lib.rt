@@ -5,6 +5,7 @@ ghost use lib.ListN.{length};
 ghost use Rattle.rules.specs.Fields.{E, size};
 ghost use Rattle.rules.specs.Workflow.{task-place, edge-place};
 ghost use Rattle.rules.specs.Labels.{label-lookup};
+ghost use Rattle.good.specs.Ranges.{request-most};
 ghost use Rattle.reader.specs.Meaning.{ViewOf, meant-view};
 ghost use Rattle.lookup.specs.Lookup.{workflow-of, meant-part, LabelOf};
 use reader::Reading;
@@ -12,20 +13,11 @@ use reader::View;
 
 // Where the record of a task begins: each has its `T` and a `W` for every processor.
 fn task_place(v: View, task: usize) -> usize
-    requires { ⌜ (v .processors ≤ 16) × (task-place (meant-view v) task ≤ 8_381) ⌝ }
+    requires { ⌜ (v .processors ≤ 16) × (task-place (meant-view v) task ≤ request-most) ⌝ }
     ensures { λ r. ⌜ r ≡ task-place (meant-view v) task ⌝ }
 {
     let stride = 10 + v.processors * 5;
     v.tasks_at + task * stride
-}
-
-// The price per minute of a processor.
-pub fn price(s: &[u8], v: View, processor: usize) -> u64
-    requires { ⌜ ViewOf (now s) v ⌝ }
-    requires { ⌜ processor < v .processors ⌝ }
-    ensures { λ r. ⌜ (r ≡ workflow-of (now (s .entry)) v .price processor) × (r ≤ 100) ⌝ }
-{
-    fields::field(s, v.prices_at + processor * 3, 2) as u64
 }
 
 // The minutes of a task on a processor.
