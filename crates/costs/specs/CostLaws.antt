@@ -16,7 +16,7 @@ use Rattle.laws.specs.Filled.{Filled}
 module _ (W : Workflow) (range : good.InRange W) (i : ℕ) where
   pub cost-at-most : (j : ℕ) → cost W i j ≤ cost-most
   unfolding cost
-  cost-at-most j = omega (arith, mul-le-mul (range .minutes-most i j) (range .price-in j))
+  cost-at-most j = omega (arith, range .minimum-in j, mul-le-mul (range .minutes-most i j) (range .price-in j))
 
   pub lowest-cost-at-most : lowest-cost W i ≤ cost-most
   unfolding lowest-cost

@@ -15,10 +15,10 @@ use Rattle.costs.proofs.cheapest_total.Statement.{statement}
 use Rattle.costs.proofs.cheapest_total.Tie as tie
 
 abbrev Inv-loop : tie.InvT-loop
-Inv-loop s v total₀ i₀ total i = (i ≤ v .tasks) × (total ≡ sum i (lowest-cost (workflow-of s v))) × (total ≤ cost-most * i)
+Inv-loop s v prices minimums total₀ i₀ total i = (i ≤ v .tasks) × (total ≡ sum i (lowest-cost (workflow-of s v))) × (total ≤ cost-most * i)
 
 abbrev μ-loop : tie.MeasureT-loop
-μ-loop s v total₀ i₀ total i = v .tasks - i
+μ-loop s v prices minimums total₀ i₀ total i = v .tasks - i
 
 loop-holds : tie.Need-loop-holds Inv-loop μ-loop
 unfolding sum
@@ -32,7 +32,7 @@ unfolding workflow
 lowest-of-requires c κs =
     let a = c .before .before .before .before .before .before .args in
     let pre = c .before .before .before .before .before .before .pre in
-    let range = view-in-range (a .s .now) (a .v) pre in
+    let range = view-in-range (a .s .now) (a .v) (pre .0) in
     (range .processors-in .from-low, range .processors-in .to-high)
 
 lowest-here :
@@ -45,7 +45,7 @@ lowest-here c =
     let a = c .before .before .before .before .before .before .before .args in
     let pre = c .before .before .before .before .before .before .before .pre in
     let i = c .before .before .before .before .before .loop .i in
-    let range = view-in-range (a .s .now) (a .v) pre in
+    let range = view-in-range (a .s .now) (a .v) (pre .0) in
     let lowest = c .lowest-of .ensures ∙ lowest-filled _ range i (c .before .before .cost-on-all .ensures) in
     (lowest, omega (arith, lowest, lowest-cost-at-most _ range i))
 
@@ -54,7 +54,7 @@ unfolding workflow
 add-total c =
     let a = c .before .before .before .before .before .before .before .args in
     let pre = c .before .before .before .before .before .before .before .pre in
-    omega (arith, lowest-here c .1, view-in-range (a .s .now) (a .v) pre .tasks-in)
+    omega (arith, lowest-here c .1, view-in-range (a .s .now) (a .v) (pre .0) .tasks-in)
 
 add-i : tie.Need-add-i Inv-loop μ-loop
 add-i c = search needs
@@ -74,7 +74,7 @@ returns c =
     let a = c .before .before .before .before .args in
     let pre = c .before .before .before .before .pre in
     let loop = c .before .before .loop in
-    let range = view-in-range (a .s .now) (a .v) pre in
+    let range = view-in-range (a .s .now) (a .v) (pre .0) in
     let passed : loop .i ≡ a .v .tasks = omega arith in (
       loop .inv .1 ∙ ap (λ (k : ℕ). sum k (lowest-cost (workflow-of (a .s .now) (a .v)))) passed,
       omega (arith, range .tasks-in),
