@@ -44,7 +44,7 @@ fn too_late(deadline: Deadline, length: u64) -> bool
     }
 }
 
-// Check 9, then placing, then check 11, which takes the rows back.
+// What the processors charge is read once. Then check 9, placing, and check 11, which takes the rows back.
 fn plan_ranked(
     s: &[u8],
     v: View,
@@ -59,14 +59,26 @@ fn plan_ranked(
     requires { ⌜ Columns [] (now processors) (now starts) (now finishes) (now costs) ⌝ }
     ensures { λ r. ⌜ PlanOf (outcome-within (workflow-of (now (s .entry)) v)) (planned-in (now (processors .exit)) (now (starts .exit)) (now (finishes .exit)) (now (costs .exit)) r) ⌝ }
 {
-    let cheapest = costs::cheapest_total(s, v);
+    let charges = charges::charges_of(s, v);
+    let cheapest = costs::cheapest_total(s, v, &charges.prices, &charges.minimums);
     if v.budget < cheapest {
         return Answer::Refused {
             number: 9,
             place: cheapest,
         };
     }
-    let p = placing::place(s, v, ranks, cheapest, processors, starts, finishes, costs);
+    let p = placing::place(
+        s,
+        v,
+        &charges.prices,
+        &charges.minimums,
+        ranks,
+        cheapest,
+        processors,
+        starts,
+        finishes,
+        costs,
+    );
     let deadline = v.deadline;
     if too_late(deadline, p.length) {
         *processors = [0u64; 64];

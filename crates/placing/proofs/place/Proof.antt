@@ -45,13 +45,13 @@ kept-in sits starts ends costs placed processors rb spent rcb length =
     }
 
 abbrev Inv-loop : tie.InvT-loop
-Inv-loop s v ranks cheapest sits₀ starts₀ ends₀ costs₀ last before placed₀ processors₀ rb₀ spent₀ rcb₀ length₀ k₀
+Inv-loop s v prices minimums ranks cheapest sits₀ starts₀ ends₀ costs₀ last before placed₀ processors₀ rb₀ spent₀ rcb₀ length₀ k₀
     sits starts ends costs placed processors rb spent rcb length k =
     let W = workflow-of s v in
     (k ≤ v .tasks) × Kept W (place HBCS W k) k (kept-in sits starts ends costs placed processors rb spent rcb length)
 
 abbrev μ-loop : tie.MeasureT-loop
-μ-loop s v ranks cheapest sits₀ starts₀ ends₀ costs₀ last before placed₀ processors₀ rb₀ spent₀ rcb₀ length₀ k₀
+μ-loop s v prices minimums ranks cheapest sits₀ starts₀ ends₀ costs₀ last before placed₀ processors₀ rb₀ spent₀ rcb₀ length₀ k₀
     sits starts ends costs placed processors rb spent rcb length k =
     v .tasks - k
 
@@ -146,7 +146,7 @@ cost-on-all-requires : tie.Need-cost-on-all-requires Inv-loop μ-loop
 unfolding workflow
 cost-on-all-requires c κs =
     let start = c .before .before .before .before .before .before .before .before .before in
-    (start .pre .0, task-below c)
+    (start .pre .0, (start .pre .1 .0 .2, task-below c))
 
 lowest-of-requires : tie.Need-lowest-of-requires Inv-loop μ-loop
 unfolding workflow
