@@ -25,7 +25,9 @@ unfolding sum
 loop-holds c = (omega arith, refl, omega arith)
 
 cost-on-all-requires : tie.Need-cost-on-all-requires Inv-loop μ-loop
-cost-on-all-requires c κs = search needs
+cost-on-all-requires c κs =
+    let pre = c .before .before .before .before .pre in
+    (pre .0, (pre .1, omega arith))
 
 lowest-of-requires : tie.Need-lowest-of-requires Inv-loop μ-loop
 unfolding workflow

@@ -4,7 +4,7 @@ use Prim.Native.Nat.{_+_, _≤_}
 use mathlib.Core.Bool.{not}
 use lib.ListN.{length}
 use Rattle.rules.specs.Fields.{Q, kind-byte, body, size, P-processor, P-price, Q-minimum}
-use Rattle.rules.specs.Records.{unless, first-fault, answered, minimum, price-checks, minimum-at}
+use Rattle.rules.specs.Records.{unless, answered, minimum, price-checks, minimum-at}
 use Rattle.records.proofs.Laws.{refused-so-far, answered-by-more, last-check}
 use native.Mathlib.Omega.{arith}
 use borrow.Author.Needs.{needs}

@@ -1,5 +1,4 @@
--- The shared fault answers, or else the record.
-use mathlib.Core.Path.{_≡_}
+-- The fault that `P` shares with `Q` answers, or else the record.
 use Prim.Native.Nat.{_+_, _≤_}
 use mathlib.Core.List.{[]}
 use lib.ListN.{length}
