@@ -14,6 +14,10 @@ pub fn p(processor: u8, price: u8) -> Vec<u8> {
     vec![b'P', processor, price]
 }
 
+pub fn q(processor: u8, price: u8, minimum: u16) -> Vec<u8> {
+    [&[b'Q', processor, price][..], &minimum.to_le_bytes()].concat()
+}
+
 /// The label is filled up with spaces, or cut, to 8 bytes.
 pub fn t(task: u8, label: impl AsRef<[u8]>) -> Vec<u8> {
     let mut record = [&[b'T', task], label.as_ref()].concat();
@@ -40,6 +44,9 @@ pub struct Draft {
     pub budget: u32,
     pub deadline: Option<u32>,
     pub prices: Vec<u8>,
+    /// A processor that has a minimum here is a `Q`; any other, also one past
+    /// the end of this list, is a `P`.
+    pub minimums: Vec<Option<u16>>,
     /// Label, and minutes on each processor.
     pub tasks: Vec<(String, Vec<u16>)>,
     /// From, to, transfer minutes.
@@ -47,22 +54,37 @@ pub struct Draft {
 }
 
 impl Draft {
-    /// Tasks with the labels t0, t1, ... and no deadline.
+    /// Tasks with the labels t0, t1, ... and no deadline; every processor is a `P`.
     pub fn new(budget: u32, prices: &[u8], minutes: &[&[u16]], edges: &[(u8, u8, u16)]) -> Draft {
         let task = |(i, of_task): (usize, &&[u16])| (format!("t{i}"), of_task.to_vec());
         Draft {
             budget,
             deadline: None,
             prices: prices.to_vec(),
+            minimums: vec![None; prices.len()],
             tasks: minutes.iter().enumerate().map(task).collect(),
             edges: edges.to_vec(),
         }
     }
 
+    /// The same with these for minimums.
+    pub fn with_minimums(self, minimums: &[Option<u16>]) -> Draft {
+        Draft { minimums: minimums.to_vec(), ..self }
+    }
+
+    /// The minimum of processor j, if it is a `Q`.
+    pub fn minimum(&self, j: usize) -> Option<u16> {
+        self.minimums.get(j).copied().flatten()
+    }
+
     pub fn records(&self) -> Vec<Vec<u8>> {
         let mut records = vec![h(self.tasks.len() as u8, self.prices.len() as u8, self.budget)];
         records.extend(self.deadline.map(d));
-        records.extend((0..=255).zip(&self.prices).map(|(j, &price)| p(j, price)));
+        let processor = |(j, &price): (u8, &u8)| match self.minimum(j.into()) {
+            Some(minimum) => q(j, price, minimum),
+            None => p(j, price),
+        };
+        records.extend((0..=255).zip(&self.prices).map(processor));
         for (i, (label, minutes)) in (0..=255).zip(&self.tasks) {
             records.push(t(i, label));
             records.extend((0..=255).zip(minutes).map(|(j, &time)| w(i, j, time)));
@@ -76,9 +98,12 @@ impl Draft {
         self.records().concat()
     }
 
-    /// All times multiplied by a, prices by b, and the budget by both.
+    /// All times multiplied by a, prices by b, minimums and the budget by both.
     pub fn times(&self, a: u8, b: u8) -> Draft {
         let longer = |time: u16| time * u16::from(a);
+        // What two bytes cannot hold becomes the largest that they can, which
+        // is out of range too.
+        let more = |minimum: u16| minimum.saturating_mul(u16::from(a) * u16::from(b));
         let task = |(label, minutes): &(String, Vec<u16>)| {
             (label.clone(), minutes.iter().map(|&time| longer(time)).collect())
         };
@@ -86,6 +111,7 @@ impl Draft {
             budget: self.budget * u32::from(a) * u32::from(b),
             deadline: self.deadline.map(|deadline| deadline * u32::from(a)),
             prices: self.prices.iter().map(|price| price * b).collect(),
+            minimums: self.minimums.iter().map(|minimum| minimum.map(more)).collect(),
             tasks: self.tasks.iter().map(task).collect(),
             edges: self.edges.iter().map(|&(from, to, c)| (from, to, longer(c))).collect(),
         }

@@ -2,8 +2,8 @@
 
 use std::io::{self, Read, Write};
 
-/// A good request has at most 8,381 bytes, so one that is longer than this is
-/// refused on account of its first bytes.
+/// A good request has at most [`compare::MOST_BYTES`], so one that is longer
+/// than this is refused on account of its first bytes.
 const INPUT_LIMIT: u64 = 16_384;
 
 fn main() -> io::Result<()> {

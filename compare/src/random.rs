@@ -57,7 +57,8 @@ pub const FULL: Limits =
 
 /// What task i costs on processor j.
 pub fn cost(draft: &Draft, i: usize, j: usize) -> u64 {
-    u64::from(draft.tasks[i].1[j]) * u64::from(draft.prices[j])
+    let by_minutes = u64::from(draft.tasks[i].1[j]) * u64::from(draft.prices[j]);
+    by_minutes.max(draft.minimum(j).unwrap_or(0).into())
 }
 
 /// Every task on its cheapest processor.

@@ -4,6 +4,9 @@ use std::ops::Range;
 
 const EDGE_LIMIT: usize = 512;
 
+/// "So a good request, one not refused with 1 to 6, has at most 8,413 bytes."
+pub const MOST_BYTES: usize = 8_413;
+
 /// "The list has sixty-four bytes."
 pub(crate) const LIST: &[u8; 64] =
     b"ABCDEFGHIJKLMNOPQRSTUVWXYZabcdefghijklmnopqrstuvwxyz0123456789-_";
@@ -44,6 +47,8 @@ pub struct Workflow {
     pub deadline: Option<u32>,
     /// Price per minute of each processor.
     pub prices: Vec<u32>,
+    /// The least amount that each processor bills for a task; "a `P` has minimum 0".
+    pub minimums: Vec<u32>,
     /// Task i on processor j stands at `i * processors + j`.
     pub minutes: Vec<u32>,
     /// Where each label, without its spaces, stands in the request.
@@ -72,11 +77,21 @@ pub fn read(request: &[u8]) -> Result<Workflow, Refusal> {
     }
 
     let mut prices = Vec::with_capacity(m.into());
+    let mut minimums = Vec::with_capacity(m.into());
     for j in 0..m {
-        let (at, &[processor, price]) = records.take::<2>(b'P')?;
+        // "A `Q` may stand wherever a `P` is due."
+        let (at, [processor, price], minimum) = if records.kind() == Some(b'Q') {
+            let (at, &[processor, price, m0, m1]) = records.take::<4>(b'Q')?;
+            (at, [processor, price], u16::from_le_bytes([m0, m1]))
+        } else {
+            let (at, &body) = records.take::<2>(b'P')?;
+            (at, body, 0)
+        };
         require(processor == j, 3, at)?;
         require(price <= 100, 4, at)?;
+        require(minimum <= 10_000, 4, at)?;
         prices.push(price.into());
+        minimums.push(minimum.into());
     }
 
     let mut labels = Vec::with_capacity(n.into());
@@ -118,6 +133,7 @@ pub fn read(request: &[u8]) -> Result<Workflow, Refusal> {
         budget,
         deadline,
         prices,
+        minimums,
         minutes,
         labels,
         edges,

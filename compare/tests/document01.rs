@@ -358,14 +358,15 @@ fn label_lookup_asks_for_reading_only() {
 #[test]
 fn only_the_kind_due() {
     // Each record in turn gets each kind byte; E and Z are due alike at 73, 78
-    // and 83, and D beside P at 7.
+    // and 83, Q beside P at 7 and 10, and D beside both at 7.
     let good = sample(28).bytes();
     let offsets = [0, 7, 10, 13, 23, 28, 33, 43, 48, 53, 63, 68, 73, 78, 83];
     for at in offsets {
         for kind in 0..=255 {
             let due = match at {
                 0 => kind == b'H',
-                7 => kind == b'P' || kind == b'D',
+                7 => kind == b'P' || kind == b'Q' || kind == b'D',
+                10 => kind == b'P' || kind == b'Q',
                 73 | 78 | 83 => kind == b'E' || kind == b'Z',
                 _ => kind == good[at],
             };
@@ -383,6 +384,8 @@ fn only_the_kind_due() {
         request
     };
     refuses(&changed(7, b'D'), 4, 7); // the deadline's bytes are 0, 1, `P`, 1
+    refuses(&changed(7, b'Q'), 2, 12); // the minimum's are `P`, 1, and 3 is no kind
+    refuses(&changed(10, b'Q'), 2, 15); // the minimum's are `T`, 0
     refuses(&changed(73, b'Z'), 6, 74);
     refuses(&changed(83, b'E'), 1, 83);
 }

@@ -66,7 +66,7 @@ fn described(request: &[u8]) -> String {
 fn size(kind: u8) -> usize {
     match kind {
         b'H' => 7,
-        b'D' | b'W' | b'E' => 5,
+        b'D' | b'Q' | b'W' | b'E' => 5,
         b'P' => 3,
         b'T' => 10,
         _ => 1,
@@ -86,6 +86,9 @@ fn record(bytes: &[u8]) -> String {
         b'H' => format!("H  {} tasks, {} processors, budget {}", bytes[1], bytes[2], four(3)),
         b'D' => format!("D  deadline {}", four(1)),
         b'P' => format!("P  processor {}, price {}", bytes[1], bytes[2]),
+        b'Q' => {
+            format!("Q  processor {}, price {}, minimum {}", bytes[1], bytes[2], two(3))
+        }
         b'T' => format!("T  task {}, label \"{}\"", bytes[1], bytes[2..].escape_ascii()),
         b'W' => format!("W  task {} on processor {}: {} minutes", bytes[1], bytes[2], two(3)),
         b'E' => format!("E  from {} to {}, transfer {}", bytes[1], bytes[2], two(3)),
@@ -119,6 +122,24 @@ mod tests {
         assert!(text.contains("      13  T  task 0, label \"prep    \"\n"), "{text}");
         assert!(text.contains("      78  E  from 0 to 2, transfer 3\n"), "{text}");
         assert!(text.ends_with("      83  Z  end\nA good request of 84 bytes.\n"), "{text}");
+    }
+
+    #[test]
+    fn a_minimum() {
+        let draft = sample(28).with_minimums(&[None, Some(10_000)]);
+        let text = described(&draft.bytes());
+        assert!(text.contains("       7  P  processor 0, price 1\n"), "{text}");
+        assert!(text.contains("      10  Q  processor 1, price 3, minimum 10000\n"), "{text}");
+        assert!(text.contains("      15  T  task 0, label \"prep    \"\n"), "{text}");
+        assert!(text.ends_with("      85  Z  end\nA good request of 86 bytes.\n"), "{text}");
+
+        let text = described(&sample(28).with_minimums(&[None, Some(10_001)]).bytes());
+        assert!(text.contains(">>    10  Q  processor 1, price 3, minimum 10001\n"), "{text}");
+        assert!(text.contains("Reading stops at byte 10 with refusal 4"), "{text}");
+        assert!(text.ends_with("The 71 bytes from 15 on were not read.\n"), "{text}");
+
+        let text = described(&draft.bytes()[..14]);
+        assert!(text.contains(">>    10  Q  cut short: 4 of 5 bytes\n"), "{text}");
     }
 
     #[test]
