@@ -48,12 +48,27 @@ pub struct Limits {
     pub minutes: u64,
     pub transfer: u64,
     pub price: u64,
+    pub minimum: u64,
 }
 
-pub const SMALL: Limits =
-    Limits { tasks: 8, processors: 4, edges: 14, minutes: 20, transfer: 10, price: 9 };
-pub const FULL: Limits =
-    Limits { tasks: 64, processors: 16, edges: 512, minutes: 2_000, transfer: 1_000, price: 100 };
+pub const SMALL: Limits = Limits {
+    tasks: 8,
+    processors: 4,
+    edges: 14,
+    minutes: 20,
+    transfer: 10,
+    price: 9,
+    minimum: 100,
+};
+pub const FULL: Limits = Limits {
+    tasks: 64,
+    processors: 16,
+    edges: 512,
+    minutes: 2_000,
+    transfer: 1_000,
+    price: 100,
+    minimum: 10_000,
+};
 
 /// What task i costs on processor j.
 pub fn cost(draft: &Draft, i: usize, j: usize) -> u64 {
@@ -67,8 +82,21 @@ pub fn cheapest_total(draft: &Draft) -> u64 {
     (0..draft.tasks.len()).map(|i| all.clone().map(|j| cost(draft, i, j)).min().unwrap()).sum()
 }
 
+/// For m processors a minimum each, or none where it is a `P`: a third of the
+/// time all are `Q`s, else each is a `Q` or a `P`.
+pub fn minimums(
+    random: &mut Random,
+    m: usize,
+    mut minimum: impl FnMut(&mut Random, usize) -> u64,
+) -> Vec<Option<u16>> {
+    let all = random.one_in(3);
+    let one = |j| (all || random.one_in(2)).then(|| minimum(random, j) as u16);
+    (0..m).map(one).collect()
+}
+
 /// A good request. Edges mostly follow a random order of the tasks; one draft
-/// in ten may have a cycle. The budget lies around and above the cheapest total.
+/// in ten may have a cycle. One in four has no `Q`. The budget lies around and
+/// above the cheapest total.
 pub fn draft(random: &mut Random, limits: &Limits) -> Draft {
     let n = random.within(1, limits.tasks);
     let m = random.within(1, limits.processors);
@@ -96,6 +124,9 @@ pub fn draft(random: &mut Random, limits: &Limits) -> Draft {
     }
     draft.edges.sort();
     draft.edges.dedup_by_key(|edge| (edge.0, edge.1));
+    if !random.one_in(4) {
+        draft.minimums = minimums(random, m as usize, |random, _| random.within(0, limits.minimum));
+    }
 
     let cheapest = cheapest_total(&draft);
     let budget = random.within(cheapest - cheapest / 20, cheapest * 2 + 10);
@@ -125,8 +156,8 @@ pub fn damage(random: &mut Random, request: &mut Vec<u8>) {
 
 /// A good request of exactly these sizes, for readers: each number anywhere in
 /// its range and often at an end of it, labels of any bytes of the list, a
-/// deadline in every second one. A request of n tasks has n x (n-1) edges at
-/// the most.
+/// deadline in every second one, a `Q` in three of four. A request of n tasks
+/// has n x (n-1) edges at the most.
 pub fn sized(random: &mut Random, n: u64, m: u64, edges: u64) -> Draft {
     let mut draft = Draft::new(random.often_an_end(0, 20_000_000) as u32, &[], &[], &[]);
     draft.deadline = random.one_in(2).then(|| random.often_an_end(1, 200_000) as u32);
@@ -150,6 +181,11 @@ pub fn sized(random: &mut Random, n: u64, m: u64, edges: u64) -> Draft {
             }
             left -= 1;
         }
+    }
+    // Last, so that all else is the same with any minimums.
+    if !random.one_in(4) {
+        let minimum = |random: &mut Random, _| random.often_an_end(0, 10_000);
+        draft.minimums = minimums(random, m as usize, minimum);
     }
     draft
 }
@@ -265,7 +301,7 @@ impl Damage {
 /// Any byte, half of the time a kind byte, a space or a small number.
 fn any_byte(random: &mut Random) -> u8 {
     if random.one_in(2) {
-        random.one_of(b"HDPTWEZ \0\x01\x02")
+        random.one_of(b"HDPQTWEZ \0\x01\x02")
     } else {
         random.number() as u8
     }
@@ -279,7 +315,7 @@ pub fn records(request: &[u8]) -> Vec<Range<usize>> {
     while at < request.len() {
         let body = match request[at] {
             b'H' => 6,
-            b'D' | b'W' | b'E' => 4,
+            b'D' | b'Q' | b'W' | b'E' => 4,
             b'P' => 2,
             b'T' => 9,
             b'Z' => 0,
@@ -318,6 +354,10 @@ fn put_out_of_range(random: &mut Random, request: &mut [u8], record: Range<usize
             deadline.copy_from_slice(&random.one_of(&[0, 200_001u32]).to_le_bytes())
         }
         [b'P', _, price] => *price = 101,
+        [b'Q', _, price, minimum @ ..] if minimum.len() == 2 => match random.within(1, 2) {
+            1 => *price = 101,
+            _ => minimum.copy_from_slice(&10_001u16.to_le_bytes()),
+        },
         [b'T', _, label @ ..] if label.len() == 8 => {
             label[random.within(0, 7) as usize] = random.one_of(b" ;@[`{/:,^.\0\n\x7f\x80\xc1\xff")
         }

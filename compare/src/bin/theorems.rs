@@ -11,7 +11,7 @@ use compare::{text, REFUSALS};
 
 /// Small enough to be computed by the checker in a moment.
 const TINY: Limits =
-    Limits { tasks: 4, processors: 3, edges: 6, minutes: 12, transfer: 6, price: 5 };
+    Limits { tasks: 4, processors: 3, edges: 6, minutes: 12, transfer: 6, price: 5, minimum: 30 };
 const COUNT: usize = 160;
 /// Few plans so small have a task in a gap; as many more requests as this, each with one that has.
 const GAPS: usize = 40;
