@@ -1,10 +1,11 @@
-//! Requests for planners: workflows of every shape, with numbers, budgets and deadlines that bring out ties and limits.
+//! Requests for planners: workflows of every shape, with numbers, budgets, deadlines and minimums that bring out ties and
+//! limits.
 
 use std::cmp::Reverse;
 
 use crate::build::Draft;
-use crate::random::{cheapest_total, Random};
-use crate::{plan, ranks, read, Answer, Row};
+use crate::random::{cheapest_total, minimums, Random};
+use crate::{plan, ranks, read, schedule, Answer, Row, Workflow};
 
 /// How the edges lie. Their tasks are numbered in any order.
 #[derive(Clone, Copy, Debug, PartialEq, Eq)]
@@ -66,6 +67,19 @@ pub enum Deadline {
     Any,
 }
 
+/// What the processors bill at the least. But for the first, some are `Q`s and some may be `P`s.
+#[derive(Clone, Copy, Debug, PartialEq, Eq)]
+pub enum Minimums {
+    /// All are `P`s.
+    None,
+    /// What the minutes of some task cost there, one less or one more: it just does not decide that cost, or just does.
+    Near,
+    /// The same on all that have one, so that tasks for which it decides cost the same there.
+    Same,
+    /// The lowest and the highest values.
+    Ends,
+}
+
 pub const GRAPHS: [Graph; 7] = [
     Graph::Chain,
     Graph::Fork,
@@ -88,15 +102,23 @@ pub const BUDGETS: [Budget; 4] = [Budget::Plenty, Budget::Cheapest, Budget::TooL
 pub const DEADLINES: [Deadline; 4] =
     [Deadline::None, Deadline::Length, Deadline::TooEarly, Deadline::Any];
 
-pub type Shape = (Graph, Numbers, Budget, Deadline);
+pub const MINIMUMS: [Minimums; 4] =
+    [Minimums::None, Minimums::Near, Minimums::Same, Minimums::Ends];
 
-/// The shapes one after the other: graphs change first, then numbers, budgets and deadlines. After the last comes the
-/// first again.
+pub type Shape = (Graph, Numbers, Budget, Deadline, Minimums);
+
+/// How many shapes there are.
+pub const SHAPES: usize =
+    GRAPHS.len() * NUMBERS.len() * BUDGETS.len() * DEADLINES.len() * MINIMUMS.len();
+
+/// The shapes one after the other: graphs change first, then numbers, budgets, deadlines and minimums. After the last
+/// comes the first again.
 pub fn shape(k: usize) -> Shape {
     let (graph, k) = (GRAPHS[k % GRAPHS.len()], k / GRAPHS.len());
     let (numbers, k) = (NUMBERS[k % NUMBERS.len()], k / NUMBERS.len());
     let (budget, k) = (BUDGETS[k % BUDGETS.len()], k / BUDGETS.len());
-    (graph, numbers, budget, DEADLINES[k % DEADLINES.len()])
+    let (deadline, k) = (DEADLINES[k % DEADLINES.len()], k / DEADLINES.len());
+    (graph, numbers, budget, deadline, MINIMUMS[k % MINIMUMS.len()])
 }
 
 /// Good requests of every shape, one after the other; sizes up to the limits, half of them small.
@@ -125,11 +147,33 @@ pub fn fills_a_gap(request: &[u8]) -> bool {
     (0..n as usize).any(in_a_gap)
 }
 
+/// Whether the request has a plan in which some task costs more than its minutes: it is billed a minimum.
+pub fn bills_a_minimum(request: &[u8]) -> bool {
+    let mut rows = [Row::default(); 64];
+    let Answer::Planned { n, .. } = plan(request, &mut rows) else { return false };
+    let Workflow { processors: m, prices, minutes, .. } = read(request).expect("it has a plan");
+    let by_minutes = |i: usize, j: usize| u64::from(minutes[i * m + j] * prices[j]);
+    (0..n as usize).any(|i| rows[i].cost > by_minutes(i, rows[i].processor as usize))
+}
+
+/// Whether the request has a plan in which some task runs elsewhere, or at other minutes, than it would if nothing had a
+/// minimum: the minimums turn a choice.
+pub fn turned_by_minimums(request: &[u8]) -> bool {
+    let mut rows = [Row::default(); 64];
+    let Answer::Planned { n, .. } = plan(request, &mut rows) else { return false };
+    let workflow = read(request).expect("it has a plan");
+    let none = vec![0; workflow.processors];
+    let mut without = [Row::default(); 64];
+    schedule(&Workflow { minimums: none, deadline: None, ..workflow }, &mut without);
+    let place = |row: &Row| (row.processor, row.start);
+    (0..n as usize).any(|i| place(&rows[i]) != place(&without[i]))
+}
+
 /// A good request of so many tasks and processors.
 pub fn shaped(
     random: &mut Random,
     (n, m): (usize, usize),
-    (graph, numbers, budget, deadline): Shape,
+    (graph, numbers, budget, deadline, least): Shape,
 ) -> Draft {
     let mut draft = Draft::new(20_000_000, &[], &[], &[]);
     draft.prices = prices(random, m, numbers);
@@ -147,6 +191,7 @@ pub fn shaped(
         };
         draft.edges.push((from, to, transfer));
     }
+    draft.minimums = least_amounts(random, &draft, least);
     let cheapest = cheapest_total(&draft);
     draft.budget = match budget {
         Budget::Plenty => 20_000_000,
@@ -200,6 +245,32 @@ fn minutes(random: &mut Random, prices: &[u8], numbers: Numbers) -> Vec<u16> {
         Numbers::Gaps => random.within(5, 12) as u16,
     };
     prices.iter().enumerate().map(minutes).collect()
+}
+
+/// The minimums, for the prices and minutes that the draft has.
+fn least_amounts(random: &mut Random, draft: &Draft, least: Minimums) -> Vec<Option<u16>> {
+    let m = draft.prices.len();
+    // Something around what the minutes of a task cost on processor j, if there is one for which a minimum can decide.
+    let near = |random: &mut Random, j: usize| {
+        let by_minutes =
+            |of_task: &(String, Vec<u16>)| u64::from(of_task.1[j]) * u64::from(draft.prices[j]);
+        let costs: Vec<u64> =
+            draft.tasks.iter().map(by_minutes).filter(|&cost| cost < 10_000).collect();
+        match costs[..] {
+            [] => random.within(0, 10_000),
+            _ => (random.one_of(&costs) + random.within(0, 2)).saturating_sub(1),
+        }
+    };
+    match least {
+        Minimums::None => vec![None; m],
+        Minimums::Near => minimums(random, m, near),
+        Minimums::Same => {
+            let on = random.within(0, m as u64 - 1) as usize;
+            let same = if random.one_in(2) { near(random, on) } else { random.within(1, 10_000) };
+            minimums(random, m, |_, _| same)
+        }
+        Minimums::Ends => minimums(random, m, |random, _| random.one_of(&[0, 1, 9_999, 10_000])),
+    }
 }
 
 /// The ends of the edges, rising.

@@ -5,7 +5,8 @@ use std::cmp::Reverse;
 
 use compare::build::Draft;
 use compare::random::{cheapest_total, cost, damage, draft, Limits, Random, FULL, SMALL};
-use compare::shapes::{fills_a_gap, of_every_shape, shaped, Budget, Deadline, GRAPHS, NUMBERS};
+use compare::shapes::{bills_a_minimum, fills_a_gap, of_every_shape, shaped, turned_by_minimums};
+use compare::shapes::{Budget, Deadline, GRAPHS, MINIMUMS, NUMBERS, SHAPES};
 use compare::{label, plan, ranks, read, text, Answer, Row, REFUSALS};
 
 /// What must hold of any answer to a good request with enough rows.
@@ -113,14 +114,20 @@ impl Met {
 
 fn check_many(random: &mut Random, limits: &Limits, count: usize) {
     let mut met = Met::default();
+    let (mut billed, mut turned) = (0, 0);
     for _ in 0..count {
         let draft = draft(random, limits);
         let mut rows = [Row::default(); 64];
-        let answer = plan(&draft.bytes(), &mut rows);
+        let request = draft.bytes();
+        let answer = plan(&request, &mut rows);
         check(&draft, answer, &rows);
         met.note(answer);
+        billed += u64::from(bills_a_minimum(&request));
+        turned += u64::from(turned_by_minimums(&request));
     }
     met.at_least(20, &[0, 8, 9, 11]);
+    assert!(billed >= met.0[0] / 6, "{billed} of {}", met.0[0]);
+    assert!(turned >= met.0[0] / 6, "{turned} of {}", met.0[0]);
 }
 
 #[test]
@@ -134,21 +141,26 @@ fn facts_of_full_plans() {
 }
 
 /// Requests of every shape, as the proved code is asked: in one plan of six some
-/// task is in a gap.
+/// task is in a gap, in one of six some is billed a minimum, and as many are
+/// other plans than without minimums.
 #[test]
 fn facts_of_plans_of_every_shape() {
     let mut met = Met::default();
-    let mut gaps = 0;
-    for draft in of_every_shape(0x600D_5EED_0000_0003, 7_840) {
+    let (mut gaps, mut billed, mut turned) = (0, 0, 0);
+    for draft in of_every_shape(0x600D_5EED_0000_0003, 3 * SHAPES) {
         let mut rows = [Row::default(); 64];
         let request = draft.bytes();
         let answer = plan(&request, &mut rows);
         check(&draft, answer, &rows);
         met.note(answer);
         gaps += u64::from(fills_a_gap(&request));
+        billed += u64::from(bills_a_minimum(&request));
+        turned += u64::from(turned_by_minimums(&request));
     }
     met.at_least(200, &[0, 8, 9, 11]);
     assert!(gaps >= met.0[0] / 6, "{gaps} of {}", met.0[0]);
+    assert!(billed >= met.0[0] / 6, "{billed} of {}", met.0[0]);
+    assert!(turned >= met.0[0] / 6, "{turned} of {}", met.0[0]);
 }
 
 /// "Once the cheapest total fits, I believe the cheapest processor can always
@@ -165,7 +177,8 @@ fn the_cheapest_processor_can_always_be_taken() {
         let n = random.often_an_end(1, most) as usize;
         let m = random.often_an_end(1, widest) as usize;
         let (graph, numbers) = (random.one_of(graphs), random.one_of(&NUMBERS));
-        let shape = (graph, numbers, Budget::Cheapest, Deadline::None);
+        let least = random.one_of(&MINIMUMS);
+        let shape = (graph, numbers, Budget::Cheapest, Deadline::None, least);
         let mut draft = shaped(&mut random, (n, m), shape);
         let cheapest = cheapest_total(&draft);
         for more in [0, 1, random.within(2, cheapest + 2)] {
@@ -208,12 +221,14 @@ fn placed_again(draft: &Draft, rows: &[Row]) -> usize {
     kept_from_best
 }
 
-/// Times by a, prices by b, budget by both: the same processors, starts and
-/// finishes by a, costs by a x b; refusal 8 the same, 9 by a x b, 11 by a.
+/// Times by a, prices by b, minimums and budget by both: the same processors,
+/// starts and finishes by a, costs by a x b; refusal 8 the same, 9 by a x b, 11
+/// by a.
 #[test]
 fn multiplied_requests() {
     let mut random = Random(0xA076_1D64_78BD_642F);
     let mut met = Met::default();
+    let mut billed = 0;
     for _ in 0..20_000 {
         let draft = draft(&mut random, &SMALL);
         let (a, b) = (random.within(1, 7), random.within(1, 7));
@@ -241,8 +256,38 @@ fn multiplied_requests() {
             assert_eq!(more.cost, row.cost * a * b);
         }
         met.note(answer);
+        billed += u64::from(bills_a_minimum(&draft.bytes()));
     }
     met.at_least(20, &[0, 8, 9, 11]);
+    assert!(billed >= 5_000, "{billed}");
+}
+
+/// "A `P` may stand beside a `Q` with minimum 0": the same answer and rows, where
+/// some `P`s become such `Q`s, and such `Q`s `P`s. Where a minute costs something,
+/// a minimum of 1 is no other.
+#[test]
+fn a_minimum_of_0_is_none() {
+    let mut random = Random(0x0A4A_5EED_0000_0001);
+    let mut changed = 0;
+    for round in 0..5_000 {
+        let limits = if round % 10 == 0 { &FULL } else { &SMALL };
+        let mut draft = draft(&mut random, limits);
+        let before = draft.bytes();
+        draft.minimums.resize(draft.prices.len(), None);
+        for (minimum, &price) in draft.minimums.iter_mut().zip(&draft.prices) {
+            match minimum {
+                Some(0) => *minimum = None,
+                None if random.one_in(2) => {
+                    *minimum = Some(u16::from(price > 0 && random.one_in(4)))
+                }
+                _ => {}
+            }
+        }
+        let after = draft.bytes();
+        changed += u64::from(before != after);
+        assert_eq!(text(&before), text(&after), "{draft:?}");
+    }
+    assert!(changed >= 2_000, "{changed}");
 }
 
 #[test]
@@ -250,6 +295,7 @@ fn damaged_requests() {
     const KEPT: Row = Row { processor: 91, start: 92, finish: 93, cost: 94 };
     let mut random = Random(0xE703_7ED1_A0B4_28DB);
     let mut met = Met::default();
+    let mut met_at_q = Met::default();
     for round in 0..30_000 {
         let limits = if round % 10 == 0 { &FULL } else { &SMALL };
         let mut request = draft(&mut random, limits).bytes();
@@ -268,6 +314,9 @@ fn damaged_requests() {
                 let in_reading = number <= 6;
                 assert_eq!(read(&request).is_err(), in_reading);
                 assert!(!in_reading || place as usize <= request.len());
+                if in_reading && request.get(place as usize) == Some(&b'Q') {
+                    met_at_q.note(answer);
+                }
                 0
             }
         };
@@ -283,6 +332,7 @@ fn damaged_requests() {
     }
     met.at_least(20, &[0]);
     met.at_least(20, &REFUSALS);
+    met_at_q.at_least(5, &[1, 2, 3, 4]);
 }
 
 #[test]
@@ -291,9 +341,11 @@ fn bytes_without_sense() {
     for _ in 0..20_000 {
         let length = random.within(0, 200) as usize;
         let mut request: Vec<u8> =
-            (0..length).map(|_| b"HDPTWEZ\0\x01\x02 a"[random.within(0, 11) as usize]).collect();
-        if random.one_in(2) {
-            request.splice(..0, *b"H\x01\x01\0\0\0\0P\0\0");
+            (0..length).map(|_| random.one_of(b"HDPQTWEZ\0\x01\x02 a")).collect();
+        match random.within(1, 4) {
+            1 => drop(request.splice(..0, *b"H\x01\x01\0\0\0\0P\0\0")),
+            2 => drop(request.splice(..0, *b"H\x01\x01\0\0\0\0Q\0\0\x10\x27")),
+            _ => {}
         }
         let answer = plan(&request, &mut [Row::default(); 64]);
         assert!(matches!(answer, Answer::Refused { number: 1..=6, .. }));
