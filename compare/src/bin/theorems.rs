@@ -4,6 +4,7 @@
 
 use std::iter::repeat_with;
 
+use compare::build::sample;
 use compare::random::{damage, draft, Damage, Limits, Random};
 use compare::shapes::{bills_a_minimum, fills_a_gap, turned_by_minimums};
 use compare::{plan, text, Answer, Row, REFUSALS};
@@ -50,6 +51,9 @@ fn requests() -> Vec<Vec<u8>> {
         request
     });
     let mut requests: Vec<Vec<u8>> = drawn.by_ref().take(ANY).collect();
+    // The end of the range, which numbers so small do not come to.
+    let end = |minimum| sample(28).with_minimums(&[None, Some(minimum)]).bytes();
+    requests.extend([end(10_000), end(10_001)]);
     let mut more = |count: usize, such: &dyn Fn(&[u8]) -> bool| {
         requests.extend(drawn.by_ref().filter(|request| such(request)).take(count));
     };
