@@ -1,15 +1,17 @@
-//! The cases of document 01, and both edges of each of its ranges. Offsets in
-//! S(28): H 0, P 7 10, T W W 13 23 28, 33 43 48, 53 63 68, E 73 78, Z 83, end 84.
+//! The cases of document 01 and of A4 of document 02, and both edges of each
+//! range. Offsets in S(28): H 0, P 7 10, T W W 13 23 28, 33 43 48, 53 63 68,
+//! E 73 78, Z 83, end 84.
 
 use std::io::Write;
 use std::process::{Command, Stdio};
 
-use compare::build::{d, e, h, p, sample, t, w, z, Draft};
-use compare::{label, plan, ranks, read, text, Answer, Refusal, Row};
+use compare::build::{d, e, h, p, q, sample, t, w, z, Draft};
+use compare::{label, plan, ranks, read, text, Answer, Refusal, Row, MOST_BYTES};
 
 const H: usize = 7;
 const D: usize = 5;
 const P: usize = 3;
+const Q: usize = 5;
 const T: usize = 10;
 const W: usize = 5;
 const E: usize = 5;
@@ -86,7 +88,7 @@ fn forward_edges(count: usize) -> Vec<(u8, u8, u16)> {
     (0..64).flat_map(|i| (i + 1..64).map(move |k| (i, k, 0))).take(count).collect()
 }
 
-/// Every count, field and label as large as it may be.
+/// Every count, field and label as large as it may be without a `Q`.
 fn largest() -> Draft {
     Draft {
         deadline: Some(200_000),
@@ -298,6 +300,23 @@ fn largest_good_request() {
     refuses(&[&request[..], b"E"].concat(), 6, 8_381);
 }
 
+/// The same with a `Q` for each processor: "the size limit grows by 32 bytes".
+#[test]
+fn largest_good_request_with_minimums() {
+    let request = largest().with_minimums(&[Some(10_000); 16]).bytes();
+    assert_eq!(request.len(), H + D + 16 * Q + 64 * (T + 16 * W) + 512 * E + 1);
+    assert_eq!((request.len(), MOST_BYTES), (8_413, 8_381 + 32));
+    passes(&request);
+    // No minimum is above 2,000 x 100.
+    assert_eq!(answer_with(64, &request), answer_with(64, &largest().bytes()));
+    refuses(&[&request[..], b"E"].concat(), 6, MOST_BYTES);
+    // A 513th edge, which is whole only with the bytes past the limit.
+    let mut edge = request.clone();
+    edge.splice(MOST_BYTES - 1.., e(63, 62, 0));
+    refuses(&edge, 4, MOST_BYTES - 1);
+    refuses(&edge[..MOST_BYTES], 1, MOST_BYTES - 1);
+}
+
 // ---- Labels ----
 
 #[test]
@@ -493,6 +512,148 @@ fn bytes_after_z() {
     refuses(&records.concat(), 6, 79);
 }
 
+// ---- A minimum charge ----
+
+/// S(28) with its processors as `Q`s where they have a minimum here.
+fn sample_with(minimums: [Option<u16>; 2]) -> Draft {
+    sample(28).with_minimums(&minimums)
+}
+
+#[test]
+fn s28_with_a_minimum() {
+    let request = sample_with([None, Some(10)]).bytes();
+    let expected = b"H\x03\x02\x1c\0\0\0P\0\x01Q\x01\x03\x0a\0\
+        T\0prep    W\0\0\x0a\0W\0\x01\x04\0T\x01left    W\x01\0\x08\0W\x01\x01\x04\0\
+        T\x02right   W\x02\0\x06\0W\x02\x01\x02\0E\0\x01\x02\0E\0\x02\x03\0Z";
+    assert_eq!(request, expected);
+    let expected = "plan 3 20 26 2\nprep 1 0 4 12\nleft 0 6 14 8\nright 0 14 20 6\n";
+    assert_eq!(text(&request), expected.as_bytes());
+    let rows = vec![(1, 0, 4, 12), (0, 6, 14, 8), (0, 14, 20, 6)];
+    assert_eq!(answer_with(3, &request), (planned(3, 20, 26, 2), rows));
+    assert_eq!(label(&request, 2), b"right");
+}
+
+#[test]
+fn s28_with_minimums_of_0() {
+    let expected = text(&sample(28).bytes());
+    for minimums in [[None, Some(0)], [Some(0), None], [Some(0), Some(0)]] {
+        assert_eq!(text(&sample_with(minimums).bytes()), expected);
+    }
+}
+
+#[test]
+fn s28_with_a_minimum_multiplied() {
+    let draft = sample_with([None, Some(10)]).times(3, 2);
+    assert_eq!((draft.budget, &draft.minimums[..]), (168, &[None, Some(60)][..]));
+    let rows = vec![(1, 0, 12, 72), (0, 18, 42, 48), (0, 42, 60, 36)];
+    assert_eq!(answer_with(3, &draft.bytes()), (planned(3, 60, 156, 12), rows));
+}
+
+#[test]
+fn s28_too_dear_by_a_minimum() {
+    // Processor 0 bills 11 for any task, so the lowest costs are 11, 11 and 6.
+    let draft = sample_with([Some(11), None]);
+    let rows = vec![(0, 0, 10, 11), (0, 10, 18, 11), (1, 13, 15, 6)];
+    assert_eq!(answer_with(3, &draft.bytes()), (planned(3, 18, 28, 0), rows));
+    assert_eq!(answer(&Draft { budget: 27, ..draft }.bytes()), refused(9, 28));
+}
+
+#[test]
+fn minimum_0_to_10_000() {
+    for (k, j, at) in [(1, 0, 7), (2, 1, 10)] {
+        passes(&with_record(k, q(j, 1, 0)));
+        passes(&with_record(k, q(j, 1, 10_000)));
+        refuses(&with_record(k, q(j, 1, 10_001)), 4, at);
+        refuses(&with_record(k, q(j, 1, u16::MAX)), 4, at);
+        passes(&with_record(k, q(j, 0, 10_000)));
+        passes(&with_record(k, q(j, 100, 10_000)));
+        refuses(&with_record(k, q(j, 101, 10_000)), 4, at);
+    }
+    // Both bytes count, the lowest first.
+    let request = Draft::new(1_000, &[0], &[&[1]], &[]).with_minimums(&[Some(0x0102)]).bytes();
+    assert_eq!(answer(&request), planned(1, 1, 0x0102, 1_000 - 0x0102));
+    assert_eq!(request[7..12], [b'Q', 0, 0, 2, 1]);
+}
+
+#[test]
+fn number_then_price_then_minimum() {
+    for (k, at) in [(1, 7), (2, 10)] {
+        refuses(&with_record(k, q(2, 1, 10_001)), 3, at);
+        refuses(&with_record(k, q(2, 101, 10_001)), 3, at);
+    }
+    refuses(&with_record(2, q(0, 3, 10)), 3, 10);
+    refuses(&with_record(1, q(0, 101, 10_001)), 4, 7);
+    // A fault in the `P` behind it comes later.
+    let mut records = sample_with([Some(10_001), None]).records();
+    records[2] = p(5, 101);
+    refuses(&records.concat(), 4, 7);
+}
+
+#[test]
+fn q_cut_anywhere() {
+    let last = sample_with([None, Some(10)]).bytes();
+    let last_offsets = [0, 7, 10, 15, 25, 30, 35, 45, 50, 55, 65, 70, 75, 80, 85, 86];
+    cut_everywhere(&last, &last_offsets);
+    let both = Draft { deadline: Some(14), ..sample_with([Some(10_000), Some(9)]) }.bytes();
+    let both_offsets = [0, 7, 12, 17, 22, 32, 37, 42, 52, 57, 62, 72, 77, 82, 87, 92, 93];
+    cut_everywhere(&both, &both_offsets);
+    // Four cuts in the body, two of them in the minimum, whatever stands there.
+    for cut in 11..15 {
+        let request = with_record(2, q(9, 255, u16::MAX));
+        refuses(&request[..cut], 1, 10);
+    }
+}
+
+#[test]
+fn q_where_no_processor_is_due() {
+    let records = sample_with([Some(0), Some(10)]).records();
+    let offset = |k: usize| records[..k].concat().len();
+    // For the header, a task, its minutes, an edge and the end.
+    for k in [0, 3, 4, 5, 6, 9, 12, 13, 14] {
+        let mut changed = records.clone();
+        changed[k] = q(k as u8, 1, 10);
+        refuses(&changed.concat(), 2, offset(k));
+        let mut inserted = records.clone();
+        inserted.insert(k, q(2, 1, 10_001));
+        refuses(&inserted.concat(), 2, offset(k));
+    }
+    // One less, and a deadline behind the first.
+    let mut fewer = records.clone();
+    fewer.remove(2);
+    refuses(&fewer.concat(), 2, H + Q);
+    let mut dated = records.clone();
+    dated.insert(2, d(14));
+    refuses(&dated.concat(), 2, H + Q);
+    // After the end.
+    refuses(&[records.concat(), q(2, 1, 10)].concat(), 6, offset(15));
+}
+
+/// Every way to mix both kinds on four processors: the records behind them are
+/// found, and each processor has its own numbers.
+#[test]
+fn p_and_q_mixed() {
+    let minutes: [&[u16]; 2] = [&[7, 6, 5, 4], &[1, 2, 3, 9]];
+    for mix in 0u32..16 {
+        let minimum = |j: u16| (mix >> j & 1 == 1).then_some(20 + j);
+        let minimums: Vec<Option<u16>> = (0..4).map(minimum).collect();
+        let draft = Draft::new(1_000, &[1, 2, 3, 100], &minutes, &[(0, 1, 7)]);
+        let mut draft = draft.with_minimums(&minimums);
+        for deadline in [None, Some(1_000)] {
+            draft.deadline = deadline;
+            let request = draft.bytes();
+            let workflow = read(&request).unwrap();
+            assert_eq!(workflow.prices, [1, 2, 3, 100]);
+            let expected: Vec<u32> = minimums.iter().map(|&m| m.unwrap_or(0).into()).collect();
+            assert_eq!(workflow.minimums, expected);
+            assert_eq!(workflow.minutes, [7, 6, 5, 4, 1, 2, 3, 9]);
+            assert_eq!(workflow.edges.len(), 1);
+            let before = H + deadline.map_or(0, |_| D) + 4 * P + 2 * mix.count_ones() as usize;
+            assert_eq!(workflow.labels[0].start, before + 2);
+            assert_eq!(label(&request, 1), b"t1");
+        }
+    }
+}
+
 // ---- Refusals after reading ----
 
 #[test]
@@ -542,6 +703,7 @@ fn a_refusal_keeps_every_row() {
         (with_record(2, w(0, 0, 1)), refused(2, 10)),
         (with_record(2, p(5, 1)), refused(3, 10)),
         (with_record(2, p(1, 101)), refused(4, 10)),
+        (with_record(2, q(1, 3, 10_001)), refused(4, 10)),
         (with_record(3, t(0, "")), refused(5, 13)),
         ([sample(28).bytes(), z()].concat(), refused(6, 84)),
         (cyclic.bytes(), refused(8, 0)),
@@ -581,4 +743,10 @@ fn the_program_prints_the_text() {
     assert_eq!(text(&largest).split(|&byte| byte == b'\n').count(), 1 + 64 + 1);
     assert!(text(&largest).starts_with(b"plan 64 "));
     assert_eq!(run(&[&largest[..], &[b'E'; 20_000]].concat()), b"no 6 8381\n");
+    let minimum = sample_with([None, Some(10)]).bytes();
+    assert_eq!(run(&minimum), text(&minimum));
+    let longest = self::largest().with_minimums(&[Some(10_000); 16]).bytes();
+    assert_eq!(run(&longest), text(&longest));
+    let more = [&longest[..], &[b'Q'; 20_000]].concat();
+    assert_eq!(run(&more), format!("no 6 {MOST_BYTES}\n").into_bytes());
 }

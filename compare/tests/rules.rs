@@ -1,6 +1,6 @@
-//! Ranks, ties and the choice of a processor, each on a request small enough
-//! to be worked out by hand. The first five are the "Slips that look right" of
-//! document 01; the comments say what the slip would answer.
+//! Ranks, ties, minimums and the choice of a processor, each on a request small
+//! enough to be worked out by hand. The first five are the "Slips that look
+//! right" of document 01; the comments say what the slip would answer.
 
 use compare::build::{sample, Draft};
 use compare::{plan, ranks, read, Answer, Row};
@@ -228,6 +228,162 @@ fn gap_changes_the_choice() {
     // Behind task 1, task 2 would end at 14, and at 11 on processor 0.
     let rows = vec![(0, 0, 2, 0), (1, 5, 9, 0), (1, 0, 5, 0)];
     assert_eq!(planned(&with_a_gap(3, &[&[9, 5]], &[])), ((9, 0, 0), rows));
+}
+
+// ---- Minimums ----
+
+/// One task of 4 minutes at a price of 3, with such a minimum and budget.
+fn minutes_for_12(minimum: Option<u16>, budget: u32) -> Draft {
+    Draft::new(budget, &[3], &[&[4]], &[]).with_minimums(&[minimum])
+}
+
+fn refusal(draft: &Draft) -> (u64, u64) {
+    match plan(&draft.bytes(), &mut [Row::default(); 64]) {
+        Answer::Refused { number, place } => (number, place),
+        plan => panic!("{plan:?}"),
+    }
+}
+
+#[test]
+fn minimum_around_the_minutes() {
+    // One below and equal to them it decides nothing; one above it does. Added
+    // to them it would be 23, 24 and 25.
+    for (minimum, cost) in [(None, 12), (Some(0), 12), (Some(11), 12), (Some(12), 12)] {
+        let draft = minutes_for_12(minimum, 20);
+        assert_eq!(planned(&draft), ((4, cost, 20 - cost), vec![(0, 0, 4, cost)]));
+    }
+    assert_eq!(planned(&minutes_for_12(Some(13), 20)), ((4, 13, 7), vec![(0, 0, 4, 13)]));
+    // The cheapest total knows it.
+    assert_eq!(planned(&minutes_for_12(Some(12), 12)), ((4, 12, 0), vec![(0, 0, 4, 12)]));
+    assert_eq!(refusal(&minutes_for_12(Some(13), 12)), (9, 13));
+    assert_eq!(planned(&minutes_for_12(Some(13), 13)), ((4, 13, 0), vec![(0, 0, 4, 13)]));
+}
+
+#[test]
+fn minimum_with_a_price_of_0() {
+    // It is billed for each task, however long, and not once for a processor.
+    let draft = |budget| {
+        let minutes: [&[u16]; 3] = [&[2_000], &[7], &[1]];
+        Draft::new(budget, &[0], &minutes, &[]).with_minimums(&[Some(5)])
+    };
+    let rows = vec![(0, 0, 2_000, 5), (0, 2_000, 2_007, 5), (0, 2_007, 2_008, 5)];
+    assert_eq!(planned(&draft(15)), ((2_008, 15, 0), rows));
+    assert_eq!(refusal(&draft(14)), (9, 15));
+}
+
+#[test]
+fn minimum_of_its_own_processor_alone() {
+    // The long task goes to processor 0, a `P`; the short ones to processor 1
+    // for its minimum of 9. Taken on processor 0 too, it would make the first 9.
+    let minutes: [&[u16]; 3] = [&[5, 90], &[5, 1], &[6, 1]];
+    let draft = Draft::new(100, &[1, 1], &minutes, &[]).with_minimums(&[None, Some(9)]);
+    assert_eq!(ranks_of(&draft), [95, 6, 7]);
+    let rows = vec![(0, 0, 5, 5), (1, 1, 2, 9), (1, 0, 1, 9)];
+    assert_eq!(planned(&draft), ((5, 23, 77), rows));
+    // With 5 + 5 + 6 to spend all go to processor 0; the slip would refuse it.
+    let draft = Draft { budget: 16, ..draft };
+    let rows = vec![(0, 0, 5, 5), (0, 11, 16, 5), (0, 5, 11, 6)];
+    assert_eq!(planned(&draft), ((16, 16, 0), rows));
+}
+
+#[test]
+fn minimum_turns_the_choice() {
+    // Processor 1 finishes first, for 5. With 6 to spend a minimum of 6 is paid
+    // there; one of 7 is too dear, and processor 0 is taken for 6.
+    let draft = |minimum| Draft::new(6, &[1, 1], &[&[6, 5]], &[]).with_minimums(&[None, minimum]);
+    assert_eq!(planned(&draft(None)), ((5, 5, 1), vec![(1, 0, 5, 5)]));
+    assert_eq!(planned(&draft(Some(6))), ((5, 6, 0), vec![(1, 0, 5, 6)]));
+    assert_eq!(planned(&draft(Some(7))), ((6, 6, 0), vec![(0, 0, 6, 6)]));
+}
+
+#[test]
+fn minimum_opens_the_choice() {
+    // Task 0: costs 14, 10, 31, finishes 14, 10, 31. Processor 1 finishes first
+    // and is the cheapest. With a minimum of 30 there, 0 may be taken: B 17, F 21,
+    // RB 80, RCB 30, scores 33,200 and 28,560.
+    let minutes: [&[u16]; 2] = [&[14, 10, 31], &[40, 14, 40]];
+    let draft = Draft::new(80, &[1, 1, 1], &minutes, &[(0, 1, 0)]);
+    assert_eq!(planned(&draft), ((24, 24, 56), vec![(1, 0, 10, 10), (1, 10, 24, 14)]));
+    let draft = draft.with_minimums(&[None, Some(30), None]);
+    assert_eq!(planned(&draft), ((28, 44, 36), vec![(0, 0, 14, 14), (1, 14, 28, 30)]));
+}
+
+#[test]
+fn minimum_turns_the_score() {
+    // The same finishes, costs 14, 30, 31 without a minimum: processor 0, as in
+    // `f_is_over_all_processors`. With one of 29 there, B 2, its score is 3,560
+    // against 3,360; with one of 30, B 1, 1,360 against 1,680.
+    let minutes: [&[u16]; 2] = [&[14, 10, 31], &[40, 14, 40]];
+    let draft = |minimum| {
+        let draft = Draft::new(80, &[1, 3, 1], &minutes, &[(0, 1, 0)]);
+        draft.with_minimums(&[Some(minimum), None, Some(0)])
+    };
+    assert_eq!(planned(&draft(29)), ((28, 71, 9), vec![(0, 0, 14, 29), (1, 14, 28, 42)]));
+    assert_eq!(planned(&draft(30)), ((24, 72, 8), vec![(1, 0, 10, 30), (1, 10, 24, 42)]));
+}
+
+#[test]
+fn minimum_makes_costs_equal() {
+    // Both finish at 5, for 10 and 5: processor 1. With a minimum of 10 both cost
+    // 10, and the lower number wins; with 9 processor 1 is the cheaper still.
+    let draft = |minimum| Draft::new(100, &[2, 1], &[&[5, 5]], &[]).with_minimums(&[None, minimum]);
+    assert_eq!(planned(&draft(None)), ((5, 5, 95), vec![(1, 0, 5, 5)]));
+    assert_eq!(planned(&draft(Some(9))), ((5, 9, 91), vec![(1, 0, 5, 9)]));
+    assert_eq!(planned(&draft(Some(10))), ((5, 10, 90), vec![(0, 0, 5, 10)]));
+    assert_eq!(planned(&draft(Some(11))), ((5, 10, 90), vec![(0, 0, 5, 10)]));
+}
+
+#[test]
+fn minimum_counts_in_what_must_be_left() {
+    // Task 1 costs 3 on processor 0 and 2 on processor 1, or 3 with a minimum of
+    // 3. Then 3 must be left for it and not 2, and of 8 at most 5 may be spent on
+    // task 0: 6 on the faster processor 1 is too dear.
+    let minutes: [&[u16]; 2] = [&[5, 3], &[3, 1]];
+    let draft =
+        |least| Draft::new(8, &[1, 2], &minutes, &[(0, 1, 0)]).with_minimums(&[Some(0), least]);
+    let rows = vec![(1, 0, 3, 6), (1, 3, 4, 2)];
+    assert_eq!(planned(&draft(None)), ((4, 8, 0), rows));
+    let rows = vec![(0, 0, 5, 5), (1, 5, 6, 3)];
+    assert_eq!(planned(&draft(Some(3))), ((6, 8, 0), rows));
+}
+
+#[test]
+fn minimum_leaves_ranks_and_starts() {
+    let draft = sample(100).with_minimums(&[Some(10_000), Some(7)]);
+    assert_eq!(ranks_of(&draft), ranks_of(&sample(100)));
+    // All on processor 1, as without them, and `right` for 7 and not for 6.
+    let rows = vec![(1, 0, 4, 12), (1, 4, 8, 12), (1, 8, 10, 7)];
+    assert_eq!(planned(&draft), ((10, 31, 69), rows));
+}
+
+#[test]
+fn minimums_are_multiplied_by_both() {
+    let draft = sample(28).with_minimums(&[None, Some(10)]);
+    let rows = vec![(1, 0, 4, 12), (0, 6, 14, 8), (0, 14, 20, 6)];
+    assert_eq!(planned(&draft), ((20, 26, 2), rows));
+    let rows = vec![(1, 0, 8, 24), (0, 12, 28, 16), (0, 28, 40, 12)];
+    assert_eq!(planned(&draft.times(2, 1)), ((40, 52, 4), rows));
+    let rows = vec![(1, 0, 4, 24), (0, 6, 14, 16), (0, 14, 20, 12)];
+    assert_eq!(planned(&draft.times(1, 2)), ((20, 52, 4), rows));
+    // Left at 10 in either, it would let `right` onto processor 1 for 12.
+    let rows = vec![(1, 0, 8, 24), (0, 12, 28, 16), (1, 8, 12, 12)];
+    let left = draft.times(2, 1).with_minimums(&[None, Some(10)]);
+    assert_eq!(planned(&left), ((28, 52, 4), rows));
+    let rows = vec![(1, 0, 4, 24), (0, 6, 14, 16), (1, 4, 6, 12)];
+    let left = draft.times(1, 2).with_minimums(&[None, Some(10)]);
+    assert_eq!(planned(&left), ((14, 52, 4), rows));
+}
+
+#[test]
+fn multiplied_out_of_range() {
+    // 10,000 passes; multiplied it does not, with two bytes for it or without.
+    for (minimum, a, b) in [(10_000, 1, 2), (10_000, 2, 1), (5_001, 2, 1), (10_000, 7, 1)] {
+        let draft = sample(28).with_minimums(&[None, Some(minimum)]);
+        assert!(read(&draft.bytes()).is_ok());
+        assert_eq!(refusal(&draft.times(a, b)), (4, 10));
+    }
+    let draft = sample(28).with_minimums(&[None, Some(5_000)]);
+    assert!(read(&draft.times(2, 1).bytes()).is_ok());
 }
 
 // ---- Choice ----
