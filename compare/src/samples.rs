@@ -7,7 +7,22 @@ pub fn all() -> Vec<(&'static str, Vec<u8>)> {
     let mut semicolon = sample(28).bytes();
     // The first byte of the first label.
     semicolon[15] = b';';
-    vec![("s28", sample(28).bytes()), ("semicolon", semicolon), ("ten", ten().bytes())]
+    // Processor 1 bills at least 10 for a task.
+    let minimum = sample(28).with_minimums(&[None, Some(10)]);
+    vec![
+        ("s28", sample(28).bytes()),
+        ("semicolon", semicolon),
+        ("gap", gap().bytes()),
+        ("minimum", minimum.bytes()),
+        ("ten", ten().bytes()),
+    ]
+}
+
+/// The sample with a fourth task, which runs in a gap.
+fn gap() -> Draft {
+    let mut draft = sample(31);
+    draft.tasks.push(("note".to_string(), vec![3, 6]));
+    draft
 }
 
 /// Ten tasks of a small analysis on three machines, with a deadline.
@@ -52,11 +67,25 @@ fn ten() -> Draft {
 
 #[cfg(test)]
 mod tests {
+    use std::fs;
+
+    /// And no file is another.
     #[test]
     fn the_files_are_these() {
-        for (name, request) in super::all() {
-            let file = format!("{}/../samples/{name}.request", env!("CARGO_MANIFEST_DIR"));
-            assert_eq!(std::fs::read(&file).ok(), Some(request), "{file}");
+        let folder = concat!(env!("CARGO_MANIFEST_DIR"), "/../samples");
+        let files = fs::read_dir(folder).expect("the samples are there");
+        let mut names: Vec<String> = files
+            .map(|file| file.expect("an entry").file_name().to_string_lossy().into_owned())
+            .filter(|name| name.ends_with(".request"))
+            .collect();
+        names.sort();
+        let all = super::all();
+        let mut due: Vec<String> = all.iter().map(|(name, _)| format!("{name}.request")).collect();
+        due.sort();
+        assert_eq!(names, due);
+        for (name, request) in all {
+            let file = format!("{folder}/{name}.request");
+            assert_eq!(fs::read(&file).ok(), Some(request), "{file}");
         }
     }
 }
