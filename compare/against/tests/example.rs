@@ -1,7 +1,7 @@
 //! The example for C, built with the header and the proved library, prints what the independent program prints.
 use compare::random::{Damage, Random};
 use compare::samples;
-use compare::shapes::{shaped, Budget, Deadline, Graph, Numbers};
+use compare::shapes::{shaped, Budget, Deadline, Graph, Minimums, Numbers};
 use std::io::Write;
 use std::process::{Command, Stdio};
 
@@ -31,7 +31,7 @@ fn the_samples() {
 #[test]
 fn large_and_damaged_requests() {
     let mut random = Random(0xc0de_5eed_0000_0001);
-    let shape = (Graph::Dense, Numbers::Any, Budget::Tight, Deadline::None);
+    let shape = (Graph::Dense, Numbers::Any, Budget::Tight, Deadline::None, Minimums::Near);
     for damage in Damage::ALL {
         let mut request = shaped(&mut random, (64, 16), shape).bytes();
         assert_eq!(printed(&request), compare::text(&request), "{request:?}");

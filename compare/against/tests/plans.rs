@@ -1,9 +1,9 @@
 //! The exported planner against the independent program: answers and all four buffers, for requests of every shape and
 //! for damaged ones, with any number of rows lent.
 use against::{columns_before, Columns, Driver};
-use compare::build::sample;
+use compare::build::{sample, Draft};
 use compare::random::{Damage, Random};
-use compare::shapes::{fills_a_gap, of_every_shape};
+use compare::shapes::{bills_a_minimum, fills_a_gap, of_every_shape, turned_by_minimums, SHAPES};
 use compare::{Row, REFUSALS};
 use std::collections::BTreeMap;
 
@@ -74,39 +74,76 @@ fn good(seed: u64, count: usize) -> impl Iterator<Item = (Vec<u8>, usize)> {
 #[test]
 fn the_sample() {
     let requests = (20..32).flat_map(|budget| (0..6).map(move |rows| (budget, rows)));
-    agree(requests.map(|(budget, rows)| (sample(budget).bytes(), [rows; 4])));
+    let minimums =
+        [[None; 2], [Some(0); 2], [None, Some(10)], [Some(7), None], [Some(11), Some(7)]];
+    for minimums in minimums {
+        let request = |budget| sample(budget).with_minimums(&minimums).bytes();
+        agree(requests.clone().map(|(budget, rows)| (request(budget), [rows; 4])));
+    }
+}
+
+/// One processor, one task of 12 by its minutes, and minimums around that; and with a price of 0.
+#[test]
+fn minimums_around_the_minutes() {
+    let request = |price: u8, minimum: u16, budget: u32| {
+        Draft::new(budget, &[price], &[&[4]], &[]).with_minimums(&[Some(minimum)]).bytes()
+    };
+    let requests = [0, 3].into_iter().flat_map(|price| {
+        (0..20).flat_map(move |minimum| (0..20).map(move |budget| (price, minimum, budget)))
+    });
+    let ends = [9_999, 10_000].map(|minimum| (100, minimum, 10_000));
+    let requests = requests.chain(ends);
+    let met =
+        agree(requests.map(|(price, minimum, budget)| (request(price, minimum, budget), [1; 4])));
+    each_often(&met, &[0, 9], 100);
 }
 
 #[test]
 fn good_requests_of_every_shape() {
     let mut random = Random(0x600d_5eed_0000_0001);
-    let mut gaps = 0;
-    let met = agree(good(0x600d_5eed_0000_0002, 28_224).map(|(request, n)| {
+    let (mut gaps, mut billed, mut turned) = (0, 0, 0);
+    let met = agree(good(0x600d_5eed_0000_0002, 9 * SHAPES).map(|(request, n)| {
         let lent = lent(&mut random, n);
-        gaps += usize::from(lent.iter().all(|&rows| rows >= n) && fills_a_gap(&request));
+        if lent.iter().all(|&rows| rows >= n) {
+            gaps += usize::from(fills_a_gap(&request));
+            billed += usize::from(bills_a_minimum(&request));
+            turned += usize::from(turned_by_minimums(&request));
+        }
         (request, lent)
     }));
     each_often(&met, &[0, 7, 8, 9, 11], 1_000);
     println!("{gaps} plans have a task in a gap");
+    println!("{billed} have one that is billed a minimum, {turned} are others without minimums");
     assert!(gaps >= 2_000, "{gaps} plans have a task in a gap");
+    assert!(billed >= 2_000, "{billed} plans have a task that is billed a minimum");
+    assert!(turned >= 2_000, "{turned} plans are others without minimums");
 }
 
 #[test]
 fn damaged_requests() {
     let mut random = Random(0xda4a_6ed0_0000_0001);
+    let mut at_q = Met::new();
     let met =
-        agree(good(0xda4a_6ed0_0000_0002, 28_224).enumerate().map(|(k, (mut request, n))| {
+        agree(good(0xda4a_6ed0_0000_0002, 9 * SHAPES).enumerate().map(|(k, (mut request, n))| {
             Damage::ALL[k % Damage::ALL.len()].to(&mut random, &mut request);
             let lent = lent(&mut random, n);
+            if let Err(refusal) = compare::read(&request) {
+                if request.get(refusal.place as usize) == Some(&b'Q') {
+                    *at_q.entry(refusal.number).or_default() += 1;
+                }
+            }
             (request, lent)
         }));
     each_often(&met, &[0, 1, 2, 3, 4, 5, 6, 7, 8, 9, 11], 30);
+    println!("at a Q: {at_q:?}");
+    each_often(&at_q, &[1, 2, 3, 4, 6], 30);
 }
 
 #[test]
 fn every_number_of_rows() {
     let mut random = Random(0x40e5_5eed_0000_0001);
-    let requests: Vec<_> = good(0x40e5_5eed_0000_0002, 196).collect();
+    // A step that has no divisor with the number of any part of a shape, so that all of each are met.
+    let requests: Vec<_> = good(0x40e5_5eed_0000_0002, SHAPES).step_by(15).collect();
     let met = agree(requests.into_iter().flat_map(|(request, n)| {
         let longest = random.within(0, 70) as usize;
         (0..71).map(move |rows| {
@@ -124,7 +161,7 @@ fn texts() {
     let mut driver = Driver::start();
     let mut random = Random(0x7e87_5eed_0000_0001);
     let mut requests: Vec<Vec<u8>> =
-        good(0x7e87_5eed_0000_0002, 4_704).map(|(request, _)| request).collect();
+        good(0x7e87_5eed_0000_0002, 2 * SHAPES).map(|(request, _)| request).collect();
     for (k, request) in requests.iter_mut().enumerate().filter(|(k, _)| k % 3 == 0) {
         Damage::ALL[k / 3 % Damage::ALL.len()].to(&mut random, request);
     }

@@ -1,12 +1,13 @@
 //! The exported reader and label lookup against the independent program: random good requests up to the full size,
 //! damaged ones of every kind, every cut, every byte and every number of two bytes, too many edges, noise.
 use against::{Driver, Reading};
-use compare::build::{d, e, p, sample, t, w, z, Draft};
+use compare::build::{d, e, p, q, sample, t, w, z, Draft};
 use compare::random::{sized, Damage, Random};
-use compare::{Edge, Refusal, Workflow};
+use compare::{Edge, Refusal, Workflow, MOST_BYTES};
 
-// The sizes of document 01's records, with the kind byte.
+// The sizes of the rules' records, with the kind byte.
 const P: usize = 3;
+const Q: usize = 5;
 const T: usize = 10;
 const W: usize = 5;
 const E: usize = 5;
@@ -78,11 +79,16 @@ fn workflow(request: &[u8], reading: &Reading, labels: &[&[u8]]) -> Workflow {
     };
     let two = |at: usize| u32::from(u16::from_le_bytes([request[at], request[at + 1]]));
     let &Reading { tasks: n, processors: m, prices_at, tasks_at, edges_at, edges, .. } = reading;
-    let price = |j: usize| {
-        let at = prices_at + j * P;
-        begins(at, &[b'P', j as u8]);
-        u32::from(request[at + 2])
-    };
+    // A `Q` is longer than a `P`, so the record of a processor is found from the one before it.
+    let (mut at, mut prices, mut minimums) = (prices_at, Vec::new(), Vec::new());
+    for j in 0..m as u8 {
+        let has_minimum = request[at] == b'Q';
+        begins(at, &[if has_minimum { b'Q' } else { b'P' }, j]);
+        prices.push(request[at + 2].into());
+        minimums.push(if has_minimum { two(at + 3) } else { 0 });
+        at += if has_minimum { Q } else { P };
+    }
+    assert_eq!(at, tasks_at, "request {request:?}");
     let task = |i: usize| tasks_at + i * (T + m * W);
     let minutes = |i: usize, j: usize| {
         let at = task(i) + T + j * W;
@@ -108,7 +114,8 @@ fn workflow(request: &[u8], reading: &Reading, labels: &[&[u8]]) -> Workflow {
         processors: m,
         budget: reading.budget.try_into().unwrap(),
         deadline: (reading.deadline != 0).then(|| reading.deadline.try_into().unwrap()),
-        prices: (0..m).map(price).collect(),
+        prices,
+        minimums,
         minutes: (0..n)
             .flat_map(|i| (0..m).map(move |j| (i, j)))
             .map(|(i, j)| minutes(i, j))
@@ -118,11 +125,17 @@ fn workflow(request: &[u8], reading: &Reading, labels: &[&[u8]]) -> Workflow {
     }
 }
 
-/// Small ones mostly; some of any size, and some of the full one.
+/// Small ones mostly; some of any size, and some of the full one, half of these with 16 `Q`.
 fn good(random: &mut Random) -> Draft {
     match random.within(1, 40) {
-        1 => sized(random, 64, 16, 512),
-        2..=4 => {
+        1 | 2 => {
+            let mut draft = sized(random, 64, 16, 512);
+            if random.one_in(2) {
+                draft.minimums = vec![Some(random.often_an_end(0, 10_000) as u16); 16];
+            }
+            draft
+        }
+        3..=5 => {
             let (n, m) = (random.often_an_end(1, 64), random.often_an_end(1, 16));
             let edges = random.often_an_end(0, 512);
             sized(random, n, m, edges)
@@ -140,8 +153,10 @@ fn good_requests() {
     let mut random = Random(0x5eed_4ead_0000_0001);
     let (mut full, mut with_deadline, mut without) = (0, 0, 0);
     // How often a request has the lowest and the highest value of each range.
-    let mut ends = [("", [0; 2]); 9];
+    let mut ends = [("", [0; 2]); 10];
     let mut of_length = [0; 9];
+    // How often a request has `P` alone, `Q` alone and both.
+    let mut kinds = [0; 3];
     let requests = (0..24_000).map(|_| {
         let draft = good(&mut random);
         let request = draft.bytes();
@@ -152,19 +167,26 @@ fn good_requests() {
             None => without += 1,
         }
         let prices: Vec<u32> = draft.prices.iter().map(|&price| price.into()).collect();
+        let minimums: Vec<u32> = draft.minimums.iter().flatten().map(|&m| m.into()).collect();
+        kinds[match minimums.len() {
+            0 => 0,
+            some if some == prices.len() => 1,
+            _ => 2,
+        }] += 1;
         let minutes: Vec<u32> =
             draft.tasks.iter().flat_map(|task| &task.1).map(|&time| time.into()).collect();
         let transfers: Vec<u32> = draft.edges.iter().map(|edge| edge.2.into()).collect();
-        let ranges: [(&str, u32, u32, &[u32]); 9] = [
+        let ranges: [(&str, u32, u32, &[u32]); 10] = [
             ("n", 1, 64, &[sizes.0 as u32]),
             ("m", 1, 16, &[sizes.1 as u32]),
             ("edges", 0, 512, &[sizes.2 as u32]),
             ("budget", 0, 20_000_000, &[draft.budget]),
             ("deadline", 1, 200_000, draft.deadline.as_slice()),
             ("price", 0, 100, &prices),
+            ("minimum", 0, 10_000, &minimums),
             ("minutes", 1, 2_000, &minutes),
             ("transfer", 0, 1_000, &transfers),
-            ("bytes", 31, 8_381, &[request.len() as u32]),
+            ("bytes", 26, MOST_BYTES as u32, &[request.len() as u32]),
         ];
         for (end, (name, low, high, values)) in ends.iter_mut().zip(ranges) {
             end.0 = name;
@@ -177,13 +199,14 @@ fn good_requests() {
         request
     });
     assert!(agree(requests).iter().all(|&number| number == 0));
-    println!("{full} full, {with_deadline} with a deadline, {without} without; ends {ends:?}; labels {of_length:?}");
+    println!("{full} full, {with_deadline} with a deadline, {without} without; ends {ends:?}; kinds {kinds:?}; labels {of_length:?}");
     assert!(full >= 500, "{full} full");
     assert!(
         with_deadline >= 10_000 && without >= 10_000,
         "{with_deadline} with, {without} without"
     );
     assert!(ends.iter().all(|end| end.1[0] >= 200 && end.1[1] >= 200), "{ends:?}");
+    assert!(kinds.iter().all(|&seen| seen >= 4_000), "{kinds:?}");
     assert!(of_length[1..].iter().all(|&seen| seen >= 10_000), "{of_length:?}");
 }
 
@@ -217,7 +240,14 @@ fn damaged_requests() {
 #[test]
 fn every_cut() {
     let mut random = Random(0x5eed_4ead_0000_0003);
-    let mut drafts = vec![sample(28), sized(&mut random, 1, 1, 0), sized(&mut random, 64, 16, 512)];
+    let full = sized(&mut random, 64, 16, 512);
+    let mut drafts = vec![
+        sample(28),
+        sample(28).with_minimums(&[None, Some(10)]),
+        sized(&mut random, 1, 1, 0),
+        full.clone().with_minimums(&[None; 16]),
+        full.with_minimums(&[Some(10_000); 16]),
+    ];
     drafts.extend((0..200).map(|_| sized(&mut random, 3, 2, 4)));
     for mut draft in drafts {
         for deadline in [None, Some(14)] {
@@ -231,10 +261,13 @@ fn every_cut() {
     }
 }
 
+/// The sample without minimums and with them, each without a deadline and with one.
 #[test]
 fn every_byte_of_the_sample() {
-    let requests = [None, Some(14)].into_iter().flat_map(|deadline| {
-        let mut draft = sample(28);
+    let samples = [[None; 2], [None, Some(10)], [Some(9), Some(0)]].into_iter();
+    let samples = samples.flat_map(|minimums| [None, Some(14)].map(|to| (minimums, to)));
+    let requests = samples.flat_map(|(minimums, deadline)| {
+        let mut draft = sample(28).with_minimums(&minimums);
         draft.deadline = deadline;
         let request = draft.bytes();
         (0..request.len() * 256).map(move |k| {
@@ -245,13 +278,13 @@ fn every_byte_of_the_sample() {
     });
     let met = met(&agree(requests));
     println!("{met:?}");
-    assert_eq!(met.iter().sum::<usize>(), (84 + 89) * 256);
-    // 1 needs `Z` turned into `E`, and 6 one of the two `E` turned into `Z`, in each of the two requests.
-    assert_eq!((met[1], met[6]), (2, 4));
+    assert_eq!(met.iter().sum::<usize>(), (84 + 89 + 86 + 91 + 88 + 93) * 256);
+    // 1 needs `Z` turned into `E`, and 6 one of the two `E` turned into `Z`, in each of the six requests.
+    assert_eq!((met[1], met[6]), (6, 12));
     assert!([0, 2, 3, 4, 5].iter().all(|&number| met[number] >= 1_000), "{met:?}");
 }
 
-/// All values of minutes and transfer; of budget and deadline those at the ends of the range and of each byte.
+/// All values of minutes, transfer and minimum; of budget and deadline those at the ends of the range and of each byte.
 #[test]
 fn every_number_of_more_bytes() {
     let mut all = Vec::new();
@@ -271,6 +304,8 @@ fn every_number_of_more_bytes() {
     let values: Vec<u32> = (0..=u16::MAX.into()).collect();
     within("minutes", 1, 2_000, &values, |draft, value| draft.tasks[1].1[0] = value as u16);
     within("transfer", 0, 1_000, &values, |draft, value| draft.edges[0].2 = value as u16);
+    within("minimum", 0, 10_000, &values, |draft, value| draft.minimums[0] = Some(value as u16));
+    within("minimum", 0, 10_000, &values, |draft, value| draft.minimums[1] = Some(value as u16));
     let mut random = Random(0x5eed_4ead_0000_0004);
     let near = |end: u32| (0..=600).map(move |more| end.wrapping_sub(300).wrapping_add(more));
     let ends = [0, 1 << 8, 1 << 16, 200_000, 1 << 24, 20_000_000, 1 << 31];
@@ -328,9 +363,10 @@ fn noise_behind_a_header() {
             let [a, b, c] = [(); 3].map(|()| random.within(0, 2) as u8);
             match (sort, random.within(1, 6)) {
                 (1, _) => request.push(random.number() as u8),
-                (2, _) => request.push(random.one_of(b"DPTWEZ\0\x01\x02 a")),
+                (2, _) => request.push(random.one_of(b"DPQTWEZ\0\x01\x02 a")),
                 (_, 1) => request.extend(d(c.into())),
-                (_, 2) => request.extend(p(a, b)),
+                (_, 2) if random.one_in(2) => request.extend(p(a, b)),
+                (_, 2) => request.extend(q(a, b, random.one_of(&[0, 1, 10_000, 10_001]))),
                 (_, 3) => request.extend(t(a, &b"aZ-"[..usize::from(b)])),
                 (_, 4) => request.extend(w(a, b, c.into())),
                 (_, 5) => request.extend(e(a, b, c.into())),
