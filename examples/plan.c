@@ -7,7 +7,7 @@
 #include <stdio.h>
 
 int main(int argc, char **argv) {
-    /* What comes after this many bytes changes no answer: a good request has at most 8,381. */
+    /* What comes after this many bytes changes no answer: a good request has at most ZABGURIN_MOST_REQUEST. */
     static uint8_t request[16384];
     FILE *file = argc > 1 ? fopen(argv[1], "rb") : stdin;
     if (!file) {

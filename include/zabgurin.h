@@ -37,6 +37,10 @@ enum { ZABGURIN_MOST_TASKS = 64 };
 /* The printed text of any request has at most so many bytes. */
 enum { ZABGURIN_MOST_TEXT = 2145 };
 
+/* A request that passes reading has at most so many bytes; a longer one is refused with 1 to 6. What comes after the first 16,384 bytes changes no answer, so a buffer of
+   that size will do for any input. */
+enum { ZABGURIN_MOST_REQUEST = 8413 };
+
 /* How a request is answered. number is 0 for a plan: then the plan has `tasks` rows, ends at minute `length`, costs `cost` and leaves `left` of the budget, and
    place is 0. Else number is that of the refusal, 1 to 9 or 11, with its place, and the other four are 0:
 
@@ -80,8 +84,11 @@ struct zabgurin_part {
    does not have, and for a request that is refused with 1 to 6. */
 struct zabgurin_part zabgurin_label(const uint8_t *request, size_t request_len, size_t task);
 
-/* What reading a request says. number is 0 for a good request, with its numbers (a deadline of 0 is none) and the offsets at which its parts begin: the prices, the
-   tasks, and the edges, or the end where there are none. Else number is that of the refusal, 1 to 6, with its place, and all else is 0. */
+/* What reading a request says. number is 0 for a good request, with its numbers (a deadline of 0 is none) and the offsets at which its parts begin: the records of the
+   processors, the tasks, and the edges, or the end where there are none. Else number is that of the refusal, 1 to 6, with its place, and all else is 0.
+
+   The processors' records stand from prices_at to tasks_at in the order of the processors, for each a P of 3 bytes or a Q of 5. So the record of a processor is found
+   from the one before it, by its letter. */
 struct zabgurin_reading {
     uint64_t number;
     size_t place;

@@ -1,8 +1,9 @@
 //! The Rust wrapper against the independent program: plans, texts, labels and readings of good and damaged requests.
-use compare::random::{Damage, Random};
-use compare::shapes::{shape, shaped};
-use compare::{Answer, Row};
-use zabgurin::{Refusal, Summary};
+use compare::random::{sized, Damage, Random};
+use compare::shapes::{shape, shaped, SHAPES};
+use compare::{Answer, Row, MOST_BYTES};
+use std::fs;
+use zabgurin::{Refusal, Summary, MOST_REQUEST, MOST_TASKS, MOST_TEXT};
 
 /// What the independent program says, in the wrapper's words.
 fn plan(request: &[u8], rows: &mut [Row]) -> Result<Summary, Refusal> {
@@ -41,13 +42,46 @@ fn agree(request: &[u8]) {
 #[test]
 fn good_and_damaged_requests() {
     let mut random = Random(0x57a9_9e45_0000_0001);
-    for k in 0..6_000 {
+    for k in 0..2 * SHAPES {
         let (n, m) = (random.often_an_end(1, 64) as usize, random.often_an_end(1, 16) as usize);
         let mut request = shaped(&mut random, (n, m), shape(k)).bytes();
         if k % 2 == 0 {
             Damage::ALL[k / 2 % Damage::ALL.len()].to(&mut random, &mut request);
         }
         agree(&request);
+    }
+}
+
+/// A request of the most tasks and the most bytes passes, and its text is none of the longest; what is longer does not.
+#[test]
+fn the_most() {
+    assert_eq!(MOST_REQUEST, MOST_BYTES);
+    let mut draft = sized(&mut Random(0x57a9_9e45_0000_0002), MOST_TASKS as u64, 16, 512);
+    draft.deadline = Some(200_000);
+    draft.minimums = vec![Some(10_000); 16];
+    let mut request = draft.bytes();
+    assert_eq!(request.len(), MOST_REQUEST);
+    assert_eq!(zabgurin::read(&request).number, 0);
+    assert!(zabgurin::text(&request).len() <= MOST_TEXT);
+    agree(&request);
+    // One byte more, and an edge more, which stands in part behind the most bytes.
+    request.push(b'Z');
+    agree(&request);
+    assert_eq!(zabgurin::read(&request).number, 6);
+    request.splice(MOST_REQUEST - 1.., [b'E', 63, 62, 0, 0]);
+    agree(&request);
+    assert_eq!(zabgurin::read(&request).number, 4);
+}
+
+/// The header has the same numbers by the same names.
+#[test]
+fn the_header_says_the_same() {
+    let header = concat!(env!("CARGO_MANIFEST_DIR"), "/../../include/zabgurin.h");
+    let header = fs::read_to_string(header).expect("the header is there");
+    let numbers = [("TASKS", MOST_TASKS), ("TEXT", MOST_TEXT), ("REQUEST", MOST_REQUEST)];
+    for (name, number) in numbers {
+        let line = format!("enum {{ ZABGURIN_MOST_{name} = {number} }};");
+        assert!(header.lines().any(|found| found == line), "{line}");
     }
 }
 
