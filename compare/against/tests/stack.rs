@@ -4,9 +4,9 @@ use against::frames::Library;
 use against::{Call, Driver};
 use compare::build::Draft;
 use compare::random::{Damage, Random};
-use compare::shapes::{shaped, Budget, Deadline, Graph, Numbers};
-use compare::shapes::{BUDGETS, DEADLINES, GRAPHS, NUMBERS};
-use compare::REFUSALS;
+use compare::shapes::{shaped, Budget, Deadline, Graph, Minimums, Numbers};
+use compare::shapes::{BUDGETS, DEADLINES, GRAPHS, MINIMUMS, NUMBERS};
+use compare::{MOST_BYTES, REFUSALS};
 use std::collections::{BTreeMap, BTreeSet};
 use std::fs;
 use std::io::{self, Write};
@@ -45,8 +45,9 @@ fn document(name: &str) -> String {
     fs::read_to_string(path).unwrap_or_else(|error| panic!("{name}: {error}"))
 }
 
-/// Requests of 64 tasks and 16 processors: of every shape, the dense ones with 512 edges; and two with cycles through
-/// all tasks. In the first each task waits for the one before it, in the second for the eight before it: 512 edges.
+/// Requests of 64 tasks and 16 processors: of every shape, the dense ones with 512 edges, with one sort of minimums after
+/// the other; one of as many bytes as a request can have; and two with cycles through all tasks. In the first of these
+/// each task waits for the one before it, in the second for the eight before it: 512 edges.
 fn largest(random: &mut Random) -> Vec<Draft> {
     let mut drawn = |shape| shaped(random, (MOST_TASKS, 16), shape);
     let mut drafts = Vec::new();
@@ -54,17 +55,28 @@ fn largest(random: &mut Random) -> Vec<Draft> {
         for numbers in NUMBERS {
             for budget in BUDGETS {
                 for deadline in DEADLINES {
-                    let mut draft = drawn((graph, numbers, budget, deadline));
+                    // From one of the numbers to the next by one more, so that none always has the same deadline.
+                    let turn = drafts.len() + drafts.len() / (BUDGETS.len() * DEADLINES.len());
+                    let shape = (graph, numbers, budget, deadline, MINIMUMS[turn % MINIMUMS.len()]);
+                    let mut draft = drawn(shape);
                     while graph == Graph::Dense && draft.edges.len() < 512 {
-                        draft = drawn((graph, numbers, budget, deadline));
+                        draft = drawn(shape);
                     }
                     drafts.push(draft);
                 }
             }
         }
     }
+    let mut most =
+        drafts.iter().find(|draft| draft.edges.len() == 512).expect("a dense one").clone();
+    most.budget = 20_000_000;
+    most.deadline = Some(200_000);
+    most.minimums = vec![Some(10_000); 16];
+    assert_eq!(most.bytes().len(), MOST_BYTES);
+    drafts.push(most);
     for before in [1, 8] {
-        let mut draft = drawn((Graph::Loose, Numbers::Any, Budget::Plenty, Deadline::None));
+        let shape = (Graph::Loose, Numbers::Any, Budget::Plenty, Deadline::None, Minimums::None);
+        let mut draft = drawn(shape);
         let edges = (0..64).flat_map(|i| (1..=before).map(move |k| (i, (i + k) % 64, 1_000)));
         draft.edges = edges.collect();
         draft.edges.sort();

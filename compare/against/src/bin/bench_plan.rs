@@ -1,6 +1,7 @@
 //! Times the exported planner against the independent program's, side by side: nanoseconds for one plan, the best of
-//! many rounds, from 8 tasks to 64. `bench_plan proved 64 1000` makes so many plans by one of the two (`proved` or
-//! `plain`) and prints nothing, for a tool that counts instructions.
+//! many rounds, from 8 tasks to 64, without minimums, and for 64 with them. `bench_plan proved 64 1000` makes so many
+//! plans by one of the two (`proved` or `plain`) and prints nothing, for a tool that counts instructions; `minimums` as
+//! a fourth word makes them with minimums.
 use compare::build::Draft;
 use compare::random::{cheapest_total, Random};
 use compare::Row;
@@ -10,8 +11,9 @@ use std::time::Instant;
 const ROUNDS: usize = 2_000;
 const PASSES: usize = 10;
 
-/// So many tasks, numbered in any order, on 16 processors, with eight edges to a task or as many as there can be.
-fn request(n: usize) -> Vec<u8> {
+/// So many tasks, numbered in any order, on 16 processors, with eight edges to a task or as many as there can be. All
+/// processors have a minimum, or none has; all else but the budget is the same then.
+fn request(n: usize, minimums: bool) -> Vec<u8> {
     let mut random = Random(0x5eed_9a17_be9c_0001);
     let mut draft = Draft::new(0, &[], &[], &[]);
     draft.prices = (0..16).map(|_| random.within(1, 100) as u8).collect();
@@ -37,6 +39,9 @@ fn request(n: usize) -> Vec<u8> {
         }
     }
     draft.edges.sort();
+    if minimums {
+        draft.minimums = (0..16).map(|_| Some(random.within(0, 10_000) as u16)).collect();
+    }
     draft.budget = (cheapest_total(&draft) * 5 / 4) as u32;
     draft.bytes()
 }
@@ -55,15 +60,16 @@ fn main() {
         columns[2][0]
     };
     let words: Vec<String> = std::env::args().skip(1).collect();
-    if let [by, n, plans] = &words[..] {
-        let request = request(n.parse().expect("a number of tasks"));
+    if let [by, n, plans, with @ ..] = &words[..] {
+        let n = n.parse().expect("a number of tasks");
+        let request = request(n, with.first().is_some_and(|word| word == "minimums"));
         for _ in 0..plans.parse::<usize>().expect("a number of plans") {
             black_box(if by == "proved" { proved(&request) } else { plain(&request) });
         }
         return;
     }
-    for n in [8, 16, 32, 64] {
-        let request = request(n);
+    for (n, minimums) in [(8, false), (16, false), (32, false), (64, false), (64, true)] {
+        let request = request(n, minimums);
         assert_eq!(zabgurin::text(&request), compare::text(&request));
         let round = |plan: &dyn Fn(&[u8]) -> u64| {
             let start = Instant::now();
@@ -79,8 +85,9 @@ fn main() {
         }
         let edges = (n * (n - 1) / 2).min(8 * n);
         let ratio = ours / theirs;
+        let with = if minimums { ", 16 minimums" } else { "" };
         println!(
-            "{n} tasks, {edges} edges: proved {ours:.0} ns, plain {theirs:.0} ns, ratio {ratio:.2}"
+            "{n} tasks, {edges} edges{with}: proved {ours:.0} ns, plain {theirs:.0} ns, ratio {ratio:.2}"
         );
     }
 }

@@ -2,6 +2,7 @@
 //! request, the best of many rounds.
 use compare::build::{sample, Draft};
 use compare::random::{sized, Random};
+use compare::MOST_BYTES;
 use std::hint::black_box;
 use std::time::Instant;
 
@@ -34,17 +35,18 @@ fn compete<T, U>(
     println!("{name}, {bytes} bytes: proved {ours:.0} ns, plain {theirs:.0} ns, ratio {ratio:.2}");
 }
 
-/// The full request, with a deadline.
-fn full() -> Draft {
+/// The full request, with a deadline; every processor is a `P`, or every one a `Q`.
+fn full(minimum: Option<u16>) -> Draft {
     let mut draft = sized(&mut Random(0x5eed_4ead_be9c_0001), 64, 16, 512);
     draft.deadline = Some(200_000);
-    draft
+    draft.with_minimums(&[minimum; 16])
 }
 
 /// 64 tasks with labels of eight bytes, and as little as can be besides.
 fn labels() -> Draft {
     let mut draft = sized(&mut Random(0x5eed_4ead_be9c_0002), 64, 1, 0);
     draft.deadline = None;
+    draft.minimums = vec![None];
     for (label, _) in &mut draft.tasks {
         while label.len() < 8 {
             label.push('x');
@@ -54,12 +56,14 @@ fn labels() -> Draft {
 }
 
 fn main() {
-    let (full, labels, small) = (full().bytes(), labels().bytes(), sample(28).bytes());
-    assert_eq!((full.len(), small.len()), (8_381, 84));
-    for request in [&full, &labels, &small] {
+    let (full, longest) = (full(None).bytes(), full(Some(10_000)).bytes());
+    let (labels, small) = (labels().bytes(), sample(28).bytes());
+    assert_eq!((full.len(), longest.len(), small.len()), (MOST_BYTES - 32, MOST_BYTES, 84));
+    for request in [&full, &longest, &labels, &small] {
         assert!(zabgurin::read(request).number == 0 && compare::read(request).is_ok());
     }
     compete("read the full request", &full, zabgurin::read, compare::read);
+    compete("read it with 16 minimums", &longest, zabgurin::read, compare::read);
     compete("read one of labels", &labels, zabgurin::read, compare::read);
     compete("read S(28)", &small, zabgurin::read, compare::read);
     let last = |label: fn(&[u8], usize) -> &[u8]| move |request: &[u8]| label(request, 63).len();
