@@ -55,7 +55,7 @@ fn largest(random: &mut Random) -> Vec<Draft> {
         for numbers in NUMBERS {
             for budget in BUDGETS {
                 for deadline in DEADLINES {
-                    // From one of the numbers to the next by one more, so that none always has the same deadline.
+                    // One further for each of the numbers, so that a sort does not always have the same deadline.
                     let turn = drafts.len() + drafts.len() / (BUDGETS.len() * DEADLINES.len());
                     let shape = (graph, numbers, budget, deadline, MINIMUMS[turn % MINIMUMS.len()]);
                     let mut draft = drawn(shape);

@@ -52,7 +52,7 @@ fn good_and_damaged_requests() {
     }
 }
 
-/// A request of the most tasks and the most bytes passes, and its text is none of the longest; what is longer does not.
+/// A request of the most tasks and the most bytes passes; one that is longer does not.
 #[test]
 fn the_most() {
     assert_eq!(MOST_REQUEST, MOST_BYTES);
@@ -62,9 +62,8 @@ fn the_most() {
     let mut request = draft.bytes();
     assert_eq!(request.len(), MOST_REQUEST);
     assert_eq!(zabgurin::read(&request).number, 0);
-    assert!(zabgurin::text(&request).len() <= MOST_TEXT);
     agree(&request);
-    // One byte more, and an edge more, which stands in part behind the most bytes.
+    // One byte more; and an edge more, which stands in part behind the most bytes.
     request.push(b'Z');
     agree(&request);
     assert_eq!(zabgurin::read(&request).number, 6);
