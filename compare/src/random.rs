@@ -95,8 +95,8 @@ pub fn minimums(
 }
 
 /// A good request. Edges mostly follow a random order of the tasks; one draft
-/// in ten may have a cycle. One in four has no `Q`. The budget lies around and
-/// above the cheapest total.
+/// in ten may have a cycle. Three in four may have `Q`s. The budget lies around
+/// and above the cheapest total.
 pub fn draft(random: &mut Random, limits: &Limits) -> Draft {
     let n = random.within(1, limits.tasks);
     let m = random.within(1, limits.processors);
@@ -156,8 +156,8 @@ pub fn damage(random: &mut Random, request: &mut Vec<u8>) {
 
 /// A good request of exactly these sizes, for readers: each number anywhere in
 /// its range and often at an end of it, labels of any bytes of the list, a
-/// deadline in every second one, a `Q` in three of four. A request of n tasks
-/// has n x (n-1) edges at the most.
+/// deadline in every second one; three in four may have `Q`s. A request of n
+/// tasks has n x (n-1) edges at the most.
 pub fn sized(random: &mut Random, n: u64, m: u64, edges: u64) -> Draft {
     let mut draft = Draft::new(random.often_an_end(0, 20_000_000) as u32, &[], &[], &[]);
     draft.deadline = random.one_in(2).then(|| random.often_an_end(1, 200_000) as u32);

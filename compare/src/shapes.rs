@@ -67,7 +67,7 @@ pub enum Deadline {
     Any,
 }
 
-/// What the processors bill at the least. But for the first, some are `Q`s and some may be `P`s.
+/// What the processors bill at the least. But for the first, all are `Q`s, or each is a `Q` or a `P`.
 #[derive(Clone, Copy, Debug, PartialEq, Eq)]
 pub enum Minimums {
     /// All are `P`s.
@@ -101,7 +101,6 @@ pub const NUMBERS: [Numbers; 7] = [
 pub const BUDGETS: [Budget; 4] = [Budget::Plenty, Budget::Cheapest, Budget::TooLow, Budget::Tight];
 pub const DEADLINES: [Deadline; 4] =
     [Deadline::None, Deadline::Length, Deadline::TooEarly, Deadline::Any];
-
 pub const MINIMUMS: [Minimums; 4] =
     [Minimums::None, Minimums::Near, Minimums::Same, Minimums::Ends];
 
