@@ -10,17 +10,18 @@ use lib.Dec.{eqb}
 use Rattle.rules.specs.Fields.{P, Q, kind-byte, size, body, byte}
 use Rattle.rules.specs.Records.{processor-at}
 use Rattle.rules.specs.Workflow.{processor-kind, past-processors}
+use Rattle.good.specs.Good.{Between}
 use Rattle.good.specs.Reading.{Walks}
 use Rattle.good.specs.Kinds.{processor-read}
 
 -- A `P` has 3 bytes and a `Q` 5.
-pub processor-size-most : (s : List ℕ) (at : ℕ) → size (processor-kind s at) ≤ 5
+pub processor-size : (s : List ℕ) (at : ℕ) → Between 3 (size (processor-kind s at)) 5
 unfolding processor-kind size body
-processor-size-most s at = go (eqb (byte s at) (kind-byte Q))
+processor-size s at = go (eqb (byte s at) (kind-byte Q))
   where
-    go : (t : Bool) → size (cond t Q P) ≤ 5
-    go true = omega arith
-    go false = omega arith
+    go : (t : Bool) → Between 3 (size (cond t Q P)) 5
+    go true = record { from-low = omega arith; to-high = omega arith }
+    go false = record { from-low = omega arith; to-high = omega arith }
 
 module _ (s : List ℕ) (at : ℕ) where
   -- Processor records that are read stand where the walk comes to.
@@ -31,7 +32,7 @@ module _ (s : List ℕ) (at : ℕ) where
   pub past-processors-most : (j : ℕ) → past-processors s at j ≤ at + j * 5
   unfolding past-processors
   past-processors-most zero = omega arith
-  past-processors-most (suc j) = omega (arith, past-processors-most j, processor-size-most s (past-processors s at j))
+  past-processors-most (suc j) = omega (arith, past-processors-most j, processor-size s (past-processors s at j))
 
   -- The walk goes forward.
   pub past-processors-rise : (j k : ℕ) → j ≤ k → past-processors s at j ≤ past-processors s at k

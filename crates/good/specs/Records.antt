@@ -1,4 +1,4 @@
--- Laws of reading one record: what the opening checks decide, and what a record that was read has passed.
+-- Laws of reading one record: what one that was read has passed.
 use mathlib.Core.Path.{_≡_, refl}
 use Prim.Native.Nat.{ℕ, zero, suc, _+_, _≤_}
 use native.Mathlib.Omega.{arith}
@@ -28,18 +28,6 @@ no-faults : (one other : ℕ) → first-of one other ≡ 0 → (one ≡ 0) × (o
 unfolding first-of
 no-faults zero other e = (refl, e)
 no-faults (suc number) other e = absurd (omega arith)
-
--- A record that opens well is decided by its kind's own checks.
-pub opened : (s : List ℕ) (at : ℕ) (k : Kind) (checks : List ℕ) (r : Record) →
-    first-fault (opening s at k) ≡ 0 → record-at s at k checks r ≡ answered (first-fault checks) at (at + size k) r
-unfolding record-at first-of
-opened s at k checks r e = rw (fault-append (opening s at k) checks, e)
-
--- A record that does not open well is refused with what the opening found.
-pub not-opened : (s : List ℕ) (at : ℕ) (k : Kind) (checks : List ℕ) (r : Record) {number : ℕ} →
-    first-fault (opening s at k) ≡ suc number → record-at s at k checks r ≡ stopped (suc number) at
-unfolding record-at answered first-of
-not-opened s at k checks r e = rw (fault-append (opening s at k) checks, e)
 
 -- Checks that find nothing: the first test holds, and the others find nothing.
 pub passed : (t : Bool) (number : ℕ) (checks : List ℕ) →

@@ -1,5 +1,5 @@
--- Bounds of what is computed for a request that passes reading, each from document 01's ranges: 1 to 64 tasks, 1 to 16 processors, 1 to 2,000 minutes,
--- transfers of 0 to 1,000 minutes, prices of 0 to 100, a budget of 0 to 20,000,000.
+-- Bounds of what is computed for a request that passes reading, each from the ranges of the rules: 1 to 64 tasks, 1 to 16 processors, 1 to 2,000 minutes,
+-- transfers of 0 to 1,000 minutes, prices of 0 to 100, minimums of 0 to 10,000, a budget of 0 to 20,000,000.
 use Prim.Native.Nat.{ℕ, _+_, _*_}
 
 -- Minutes that a task adds to a plan's length: the wait for its data, and its own minutes.
@@ -18,7 +18,7 @@ ready-most = finish-most + 1_000
 abbrev pub asked-finish-most : ℕ
 asked-finish-most = 200_000
 
--- A task's cost: 2,000 minutes at a price of 100.
+-- A task's cost: 2,000 minutes at a price of 100, which is more than any minimum.
 abbrev pub cost-most : ℕ
 cost-most = 2_000 * 100
 

@@ -1,28 +1,17 @@
 -- The kind byte says how long the record is, and whether a minimum stands there.
-use Prim.Native.Nat.{ℕ, _+_, _≤_}
-use mathlib.Core.Bool.{Bool, true, false, cond}
-use mathlib.Core.List.{List}
-use lib.Dec.{eqb}
+use Prim.Native.Nat.{_+_, _≤_}
 use lib.ListN.{length}
 use borrow.Author.Tests.{eq-eqb, ne-eqb}
-use Rattle.rules.specs.Fields.{P, Q, kind-byte, body, size, byte, P-price, Q-minimum}
+use Rattle.rules.specs.Fields.{kind-byte, body, size, byte, P-price, Q-minimum}
 use Rattle.rules.specs.Workflow.{processor-kind, processor-minimum}
+use Rattle.good.specs.Processors.{processor-size}
 use native.Mathlib.Omega.{arith}
 use borrow.Author.Needs.{needs}
 use Rattle.charges.proofs.charge_at.Statement.{statement}
 use Rattle.charges.proofs.charge_at.Tie as tie
 
--- A record of either kind has 3 bytes or more.
-processor-size-least : (s : List ℕ) (at : ℕ) → 3 ≤ size (processor-kind s at)
-unfolding processor-kind size body
-processor-size-least s at = go (eqb (byte s at) (kind-byte Q))
-  where
-    go : (t : Bool) → 3 ≤ size (cond t Q P)
-    go true = omega arith
-    go false = omega arith
-
 whole : (c : tie.Start) → let a = c .args in a .at + 3 ≤ length (a .s .now)
-whole c = omega (arith, c .pre, processor-size-least (c .args .s .now) (c .args .at))
+whole c = omega (arith, c .pre, processor-size (c .args .s .now) (c .args .at))
 
 field-requires : tie.Need-field-requires
 field-requires c κs = omega (arith, whole (c .before))
