@@ -98,9 +98,9 @@ cheaper-of : List ℕ → List ℕ
 cheaper-of processors =
     H-record 1 2 50 ++ processors ++ T-record 0 "one     " ++ W-record 0 0 10 ++ W-record 0 1 10 ++ bytes "Z"
 
--- The sample S(28) with other processor records.
-pub S-with : List ℕ → List ℕ
-S-with processors = take 7 (S 28) ++ processors ++ drop 13 (S 28)
+-- The sample with other processor records: it has two `P`s behind its `H`.
+abbrev pub with-processors : List ℕ → List ℕ → List ℕ
+with-processors processors sample = take 7 sample ++ processors ++ drop 13 sample
 
 pub corners : List Case
 corners =
@@ -141,14 +141,14 @@ corners =
     ∷ planned-case (cheaper-of (P-record 0 2 ++ Q-record 1 1 19)) (planned 1 10 19 31) (row 1 0 10 19 ∷ [])
     ∷ planned-case (cheaper-of (P-record 0 2 ++ Q-record 1 1 20)) (planned 1 10 20 30) (row 0 0 10 20 ∷ [])
     ∷ planned-case (cheaper-of (Q-record 0 1 25 ++ P-record 1 2)) (planned 1 10 20 30) (row 1 0 10 20 ∷ [])
-    ∷ planned-case (S-with (Q-record 0 1 0 ++ Q-record 1 3 0)) (planned 3 14 26 2) (row 1 0 4 12 ∷ row 0 6 14 8 ∷ row 1 4 6 6 ∷ [])
-    ∷ planned-case (S-with (P-record 0 1 ++ Q-record 1 3 10)) (planned 3 20 26 2) (row 1 0 4 12 ∷ row 0 6 14 8 ∷ row 0 14 20 6 ∷ [])
+    ∷ planned-case (with-processors (Q-record 0 1 0 ++ Q-record 1 3 0) (S 28)) (planned 3 14 26 2) (row 1 0 4 12 ∷ row 0 6 14 8 ∷ row 1 4 6 6 ∷ [])
+    ∷ planned-case (with-processors (P-record 0 1 ++ Q-record 1 3 10) (S 28)) (planned 3 20 26 2) (row 1 0 4 12 ∷ row 0 6 14 8 ∷ row 0 14 20 6 ∷ [])
     ∷ []
 
 pub in-corners : All-given corners
 unfolding
     given near-means best-past-budget equal-finishes two-tasks deadlines beside waits gap-of between-rows two-gaps ready-past-the-gap
-    billed cheaper-of sample S S-with corners
+    billed cheaper-of sample S corners
 in-corners =
     (refl, (refl, (refl, (refl, (refl, (refl, (refl, (refl, (refl, (refl, (refl, (refl, (refl, (refl, (refl, (refl, (refl, (refl, (refl, (refl, (refl, (refl, (refl, (refl, (refl, (refl, (refl, (refl, (refl, (refl, (refl, (refl, (refl, (refl, (refl, (refl, (refl, tt)))))))))))))))))))))))))))))))))))))
 
@@ -162,9 +162,9 @@ minimum-multiplied = (refl, refl)
 -- The kind that each processor was read in: a `Q` with minimum 0 is a `Q`.
 pub kinds-kept :
     (kinds (S 28) ≡ P ∷ P ∷ [])
-    × (kinds (S-with (Q-record 0 1 0 ++ P-record 1 3)) ≡ Q ∷ P ∷ [])
-    × (kinds (S-with (P-record 0 1 ++ Q-record 1 3 10)) ≡ P ∷ Q ∷ [])
-unfolding given sample S S-with kinds-in kinds
+    × (kinds (with-processors (Q-record 0 1 0 ++ P-record 1 3) (S 28)) ≡ Q ∷ P ∷ [])
+    × (kinds (with-processors (P-record 0 1 ++ Q-record 1 3 10) (S 28)) ≡ P ∷ Q ∷ [])
+unfolding given sample S kinds-in kinds
 kinds-kept = (refl, refl, refl)
 
 -- The label lookup: a task's label, the last task's, a task that is not there, and a request refused in reading.

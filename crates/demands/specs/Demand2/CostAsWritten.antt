@@ -1,47 +1,39 @@
--- What a task costs, by the record that its processor was read in: with a `P` its minutes times the price, as document 01 has it; with a `Q` the larger of that
--- and the minimum that stands there.
+-- What each row of a plan costs, by the record that its processor was read in: with a `P` its minutes times the price, as document 01 has it; with a `Q` the
+-- larger of that and the minimum that stands there. Stated of the rows that the caller holds, in lent rows or in four buffers.
 use Prim.Native.Nat.{ℕ, _*_, _<_, max}
-use mathlib.Core.Path.{_≡_, refl, sym, ap, _∙_}
-use mathlib.Core.Bool.{Bool, true, false, cond}
+use mathlib.Core.Path.{_≡_, refl, _∙_}
+use mathlib.Core.Bool.{Bool, true, false}
 use mathlib.Core.List.{List}
 use native.Mathlib.Omega.{arith}
-use lib.Dec.{ltb, eqb}
+use lib.Dec.{eqb}
 use borrow.Author.Tests.{lt-ltb}
 use Rattle.rules.specs.Fields.{P, Q, kind-byte, byte, Q-minimum}
 use Rattle.rules.specs.Reading.{Request}
-use Rattle.rules.specs.Workflow.{processor-kind, processor-minimum, processor-place, read-in, workflow}
+use Rattle.rules.specs.Workflow.{Workflow, processor-kind, processor-minimum, processor-place, read-in, workflow}
 use Rattle.rules.specs.Ranks.{cost}
+use Rattle.rules.specs.Rows.{Row}
+use Rattle.demands.specs.Demand2.{PlanGot}
+use Rattle.demands.specs.Demand2.Sound.{RowTrue}
 
-not-both : Q ≡ P → ⊥
-not-both e = let z : _≡_ {A = ℕ} 0 1 = cc in omega arith
+abbrev pub minutes-times-price : Workflow → ℕ → Row → ℕ
+minutes-times-price W i row = W .minutes i (row .processor) * W .price (row .processor)
 
--- What the kind of a record says of a number that only a `Q` has.
-none-in-P : (t : Bool) (x : ℕ) → cond t Q P ≡ P → cond t x 0 ≡ 0
-none-in-P true x e = absurd (not-both e)
-none-in-P false x e = refl
+-- "a `P` has minimum 0. cost(i,j) is the larger of minimum(j) and w(i,j) x price(j)": of task i's row in the request r that was read from s.
+pub data Billed (s : List ℕ) (r : Request) (i : ℕ) (row : Row) : Type 0 where
+  its-minutes : read-in s r (row .processor) ≡ P → row .cost ≡ minutes-times-price (workflow s r) i row → Billed s r i row
+  the-larger :
+      read-in s r (row .processor) ≡ Q
+      → row .cost ≡ max (Q-minimum s (processor-place s r (row .processor))) (minutes-times-price (workflow s r) i row)
+      → Billed s r i row
 
-given-in-Q : (t : Bool) (x : ℕ) → cond t Q P ≡ Q → cond t x 0 ≡ x
-given-in-Q true x e = refl
-given-in-Q false x e = absurd (not-both (sym e))
+billed : (s : List ℕ) (r : Request) (i : ℕ) (row : Row) → RowTrue (workflow s r) i row → Billed s r i row
+unfolding cost workflow read-in processor-kind processor-minimum
+billed s r i row holds = go (eqb (byte s (processor-place s r (row .processor))) (kind-byte Q)) refl
+  where
+    go : (t : Bool) → eqb (byte s (processor-place s r (row .processor))) (kind-byte Q) ≡ t → Billed s r i row
+    go true is = the-larger (rw is) (holds .cost ∙ rw (lt-ltb (row .processor) (r .processors) (holds .processor), is))
+    go false is = its-minutes (rw is) (holds .cost ∙ rw (lt-ltb (row .processor) (r .processors) (holds .processor), is) (omega arith))
 
-or-zero : (t : Bool) {x : ℕ} → x ≡ 0 → cond t x 0 ≡ 0
-or-zero true e = e
-or-zero false e = refl
-
-module _ (s : List ℕ) (r : Request) (i j : ℕ) where
-  -- "a `P` has minimum 0"
-  pub P-costs-minutes-times-price : read-in s r j ≡ P → cost (workflow s r) i j ≡ workflow s r .minutes i j * workflow s r .price j
-  unfolding cost workflow read-in processor-kind processor-minimum
-  P-costs-minutes-times-price is-P =
-      let place = processor-place s r j in
-      let none = or-zero (ltb j (r .processors)) (none-in-P (eqb (byte s place) (kind-byte Q)) (Q-minimum s place) is-P) in
-      ap (λ least. max least (workflow s r .minutes i j * workflow s r .price j)) none ∙ omega arith
-
-  pub Q-costs-the-larger :
-      j < r .processors → read-in s r j ≡ Q
-      → cost (workflow s r) i j ≡ max (Q-minimum s (processor-place s r j)) (workflow s r .minutes i j * workflow s r .price j)
-  unfolding cost workflow read-in processor-kind processor-minimum
-  Q-costs-the-larger below is-Q =
-      let place = processor-place s r j in
-      let there = given-in-Q (eqb (byte s place) (kind-byte Q)) (Q-minimum s place) is-Q in
-      ap (λ least. max least (workflow s r .minutes i j * workflow s r .price j)) (rw (lt-ltb j (r .processors) below) there)
+pub rows-billed :
+    {s : List ℕ} {lent n l c left : ℕ} {row : ℕ → Row} (got : PlanGot s lent n l c left row) (i : ℕ) → i < n → Billed s (got .request) i (row i)
+rows-billed got i below = billed _ _ i _ (got .held .rows-true i below)

@@ -8,9 +8,9 @@ use Rattle.rules.specs.Records.{read}
 use Rattle.rules.specs.Reading.{no-deadline, Request, read-request}
 use Rattle.rules.specs.Workflow.{workflow}
 use Rattle.rules.specs.Multiplied.{multiplied-deadline}
-use lib.ListN.{take, drop}
 use Rattle.rules.specs.Cases.{P-record, Q-record, given}
 use Rattle.rules.specs.Starred.{sample, S}
+use Rattle.rules.specs.Corners.{with-processors}
 use Rattle.demands.specs.Demand3.{MultipliedBy}
 
 below-two : (P : ℕ → Type 0) → P 0 → P 1 → (i : ℕ) → i < 2 → P i
@@ -88,9 +88,6 @@ sample-both-good =
     (below-two _ refl refl)
 
 -- With other processor records: a minimum of 10 beside one of 60, and a `P` beside a `Q` with minimum 0.
-abbrev with-processors : List ℕ → List ℕ → List ℕ
-with-processors processors s = take 7 s ++ processors ++ drop 13 s
-
 abbrev pub once-with-minimum : List ℕ
 once-with-minimum = with-processors (P-record 0 1 ++ Q-record 1 3 10) (S 28)
 
