@@ -8,12 +8,15 @@ use Rattle.label.specs.Length.{stands-in, all, is-label, length-up-to, label-le
 use Rattle.rules.specs.Folds.{sum, largest, lowest, any, listing}
 use Rattle.rules.specs.Orders.{tie, lower, higher, among, first}
 use Rattle.rules.specs.Fields.{Kind, kind-byte, body, size, byte, two-bytes, four-bytes, H-tasks, H-processors, H-budget, D-deadline, P-processor}
-use Rattle.rules.specs.Fields.{P-price, Q-minimum, T-task, T-label, W-task, W-processor, W-minutes, E-from, E-to, E-transfer}
+use Rattle.rules.specs.Fields.{P-price, Q-minimum, M-processor, M-begin, M-end, T-task, T-label, W-task, W-processor, W-minutes, E-from, E-to}
+use Rattle.rules.specs.Fields.{E-transfer}
 use Rattle.rules.specs.Records.{Read, read, stopped, unless, first-fault, opening-by, opening, answered, record-at, within, header-at, deadline-at}
-use Rattle.rules.specs.Records.{price-checks, price-at, minimum-at, processor-at, task-at, minutes-at, rising, edge-ranges, edge-at, end-at}
-use Rattle.rules.specs.Reading.{then, each, deadline-part, prices-part, task-part, tasks-part, edges-part, nothing-after, Request, read-request}
-use Rattle.rules.specs.Workflow.{processor-kind, processor-minimum, past-processors, processor-place, task-place, minutes-place, edge-place}
-use Rattle.rules.specs.Workflow.{read-in, workflow}
+use Rattle.rules.specs.Records.{price-checks, price-at, minimum-at, processor-at, follows, above, apart, fifth, window-ranges, window-at}
+use Rattle.rules.specs.Records.{task-at, minutes-at, edge-ranges, edge-at, end-at}
+use Rattle.rules.specs.Reading.{then, each, deadline-part, prices-part, how-many, run-part, windows-part, task-part, tasks-part, edges-part}
+use Rattle.rules.specs.Reading.{nothing-after, Request, read-request}
+use Rattle.rules.specs.Workflow.{processor-kind, processor-minimum, past-processors, processor-place, window-place, task-place, minutes-place}
+use Rattle.rules.specs.Workflow.{edge-place, read-in, busy-with, window-of, windows-on, workflow}
 use Rattle.rules.specs.Labels.{part-of, label-place, label-part, label-in, label-lookup, label}
 use Rattle.rules.specs.Cycle.{linked, leads-through, back-to-itself, cyclic, lowest-in-cycle}
 use Rattle.rules.specs.Ranks.{cost, lowest-cost, cheapest-total, rank-by, rank-within, R, next-task}
@@ -22,7 +25,7 @@ use Rattle.rules.specs.Method.{best, may-be-taken, latest-finish, B, F, 
 use Rattle.rules.specs.Rows.{Row, row-of, is-placed, busy, spent, length-of}
 use Rattle.rules.specs.Placing.{ready-for, start-of, finish-of, RB, RCB, question, row-on, place-next, place}
 use Rattle.rules.specs.Answer.{Answer, refused, refuse, too-late, placed-outcome, outcome-by, outcome-read, outcome, answer-of, answer, written, rows-after}
-use Rattle.rules.specs.Multiplied.{multiplied-deadline, multiplied}
+use Rattle.rules.specs.Multiplied.{multiplied-deadline, multiplied-interval, multiplied}
 use Rattle.rules.specs.Text.{bytes, digits, decimal, line, first-line, row-line, lines, row-lines, text}
 
 -- A number below 65,536 in two bytes, and in four.
@@ -43,6 +46,9 @@ P-record processor price = bytes "P" ++ (processor ∷ price ∷ [])
 
 abbrev pub Q-record : ℕ → ℕ → ℕ → List ℕ
 Q-record processor price minimum = bytes "Q" ++ (processor ∷ price ∷ []) ++ in-two minimum
+
+abbrev pub M-record : ℕ → ℕ → ℕ → List ℕ
+M-record processor begin end = bytes "M" ++ (processor ∷ []) ++ in-four begin ++ in-four end
 
 -- The label with its spaces.
 abbrev pub T-record : ℕ → String → List ℕ
@@ -88,11 +94,14 @@ unfolding
     stands-in all is-label length-up-to label-length
     sum largest lowest any listing tie lower higher among first
     kind-byte body size byte two-bytes four-bytes
-    H-tasks H-processors H-budget D-deadline P-processor P-price Q-minimum T-task T-label W-task W-processor W-minutes E-from E-to E-transfer
+    H-tasks H-processors H-budget D-deadline P-processor P-price Q-minimum M-processor M-begin M-end
+    T-task T-label W-task W-processor W-minutes E-from E-to E-transfer
     unless first-fault opening-by opening answered record-at within
-    header-at deadline-at price-checks price-at minimum-at processor-at task-at minutes-at rising edge-ranges edge-at end-at
-    then each deadline-part prices-part task-part tasks-part edges-part nothing-after read-request
-    processor-kind processor-minimum past-processors processor-place task-place minutes-place edge-place read-in workflow
+    header-at deadline-at price-checks price-at minimum-at processor-at follows above apart fifth window-ranges window-at task-at minutes-at
+    edge-ranges edge-at end-at
+    then each deadline-part prices-part how-many run-part windows-part task-part tasks-part edges-part nothing-after read-request
+    processor-kind processor-minimum past-processors processor-place window-place task-place minutes-place edge-place read-in
+    busy-with window-of windows-on workflow
     part-of label-place label-part label-in label-lookup label
     linked leads-through back-to-itself cyclic lowest-in-cycle
     cost lowest-cost cheapest-total rank-by rank-within R next-task
@@ -114,7 +123,7 @@ multiplied-in a b s (read next r) = answer-of (outcome-by HBCS (multiplied a b (
 multiplied-in a b s (stopped number place) = refused number place
 
 unfoldable pub answer-multiplied : ℕ → ℕ → List ℕ → Answer
-unfolding given multiplied-deadline multiplied multiplied-in
+unfolding given multiplied-deadline multiplied-interval multiplied multiplied-in
 answer-multiplied a b s = multiplied-in a b s (read-request s)
 
 -- The ranks of a request's tasks; none where it is refused in reading.

@@ -9,7 +9,7 @@ use Rattle.rules.specs.Labels.{empty-start, label-lookup, label}
 use Rattle.rules.specs.Answer.{planned, refused, answer}
 use Rattle.rules.specs.Buffers.{Buffers, rows-lent, row-in, column-after, buffers-written, buffers-after}
 use Rattle.rules.specs.Text.{bytes}
-use Rattle.rules.specs.Cases.{H-record, D-record, P-record, Q-record, T-record, W-record, E-record, row, Case, refused-case, planned-case}
+use Rattle.rules.specs.Cases.{H-record, D-record, P-record, Q-record, M-record, T-record, W-record, E-record, row, Case, refused-case, planned-case}
 use Rattle.rules.specs.Cases.{given, All-given, answer-multiplied, kinds-in, kinds}
 use Rattle.rules.specs.Starred.{sample, S}
 
@@ -98,6 +98,27 @@ cheaper-of : List ℕ → List ℕ
 cheaper-of processors =
     H-record 1 2 50 ++ processors ++ T-record 0 "one     " ++ W-record 0 0 10 ++ W-record 0 1 10 ++ bytes "Z"
 
+-- One task of these minutes on one processor that is down so. Its windows begin at offset 10.
+pub down : List ℕ → ℕ → List ℕ
+down windows minutes = H-record 1 1 50 ++ P-record 0 1 ++ windows ++ T-record 0 "one     " ++ W-record 0 0 minutes ++ bytes "Z"
+
+-- Windows of a minute each, at every second minute, and a last one.
+four-windows : List ℕ
+four-windows = M-record 0 0 1 ++ M-record 0 2 3 ++ M-record 0 4 5 ++ M-record 0 6 7
+
+-- A window from 0 to 65,541, of which two bytes say 5.
+past-two-bytes : List ℕ
+past-two-bytes = bytes "M" ++ (0 ∷ 0 ∷ 0 ∷ 0 ∷ 0 ∷ 5 ∷ 0 ∷ 1 ∷ 0 ∷ [])
+
+-- Two tasks of 3 minutes on one processor that is down from this minute on, up to 8.
+down-from : ℕ → List ℕ
+down-from begin =
+    H-record 2 1 50 ++ P-record 0 1 ++ M-record 0 begin 8 ++ T-record 0 "one     " ++ W-record 0 0 3 ++ T-record 1 "two     " ++ W-record 1 0 3 ++ bytes "Z"
+
+-- The cheaper of two processors, which are down so.
+cheaper-down : List ℕ → List ℕ
+cheaper-down windows = cheaper-of (P-record 0 2 ++ P-record 1 1 ++ windows)
+
 -- The sample with other processor records: it has two `P`s behind its `H`.
 abbrev pub with-processors : List ℕ → List ℕ → List ℕ
 with-processors processors sample = take 7 sample ++ processors ++ drop 13 sample
@@ -143,14 +164,45 @@ corners =
     ∷ planned-case (cheaper-of (Q-record 0 1 25 ++ P-record 1 2)) (planned 1 10 20 30) (row 1 0 10 20 ∷ [])
     ∷ planned-case (with-processors (Q-record 0 1 0 ++ Q-record 1 3 0) (S 28)) (planned 3 14 26 2) (row 1 0 4 12 ∷ row 0 6 14 8 ∷ row 1 4 6 6 ∷ [])
     ∷ planned-case (with-processors (P-record 0 1 ++ Q-record 1 3 10) (S 28)) (planned 3 20 26 2) (row 1 0 4 12 ∷ row 0 6 14 8 ∷ row 0 14 20 6 ∷ [])
+    ∷ planned-case (down (M-record 0 0 10) 5) (planned 1 15 5 45) (row 0 10 15 5 ∷ [])
+    ∷ planned-case (down (M-record 0 5 9) 5) (planned 1 5 5 45) (row 0 0 5 5 ∷ [])
+    ∷ planned-case (down (M-record 0 5 9) 6) (planned 1 15 6 44) (row 0 9 15 6 ∷ [])
+    ∷ planned-case (down (M-record 0 0 4 ++ M-record 0 9 12) 5) (planned 1 9 5 45) (row 0 4 9 5 ∷ [])
+    ∷ planned-case (down (M-record 0 0 4 ++ M-record 0 9 12) 6) (planned 1 18 6 44) (row 0 12 18 6 ∷ [])
+    ∷ planned-case (down (M-record 0 0 4 ++ M-record 0 4 9) 5) (planned 1 14 5 45) (row 0 9 14 5 ∷ [])
+    ∷ planned-case (down four-windows 2) (planned 1 9 2 48) (row 0 7 9 2 ∷ [])
+    ∷ refused-case (down (four-windows ++ M-record 0 8 9) 2) 4 50
+    ∷ planned-case (down (M-record 0 0 258) 5) (planned 1 263 5 45) (row 0 258 263 5 ∷ [])
+    ∷ planned-case (down (M-record 0 0 20_000) 5) (planned 1 20_005 5 45) (row 0 20_000 20_005 5 ∷ [])
+    ∷ refused-case (down (M-record 0 0 20_001) 5) 4 10
+    ∷ refused-case (down past-two-bytes 5) 4 10
+    ∷ refused-case (down (M-record 0 5 5) 5) 4 10
+    ∷ refused-case (down (M-record 1 0 5) 5) 4 10
+    ∷ refused-case (down (M-record 0 0 4 ++ M-record 0 3 9) 5) 3 20
+    ∷ refused-case (down (M-record 0 6 9 ++ M-record 0 0 4) 5) 3 20
+    ∷ refused-case (down (M-record 0 6 9 ++ M-record 0 6 6) 5) 3 20
+    ∷ refused-case (down (M-record 0 6 9 ++ M-record 0 8 20_001) 5) 3 20
+    ∷ refused-case (down (M-record 0 6 9 ++ M-record 0 9 20_001) 5) 4 20
+    ∷ refused-case (take 19 (down (M-record 0 0 10) 5)) 1 10
+    ∷ refused-case (take 20 (down (M-record 0 0 10) 5)) 1 20
+    ∷ refused-case (deadlines [] (M-record 0 0 10)) 2 10
+    ∷ refused-case (two-tasks (M-record 0 0 10)) 2 40
+    ∷ planned-case (down-from 6) (planned 2 6 6 44) (row 0 0 3 3 ∷ row 0 3 6 3 ∷ [])
+    ∷ planned-case (down-from 5) (planned 2 11 6 44) (row 0 0 3 3 ∷ row 0 8 11 3 ∷ [])
+    ∷ planned-case (cheaper-down (M-record 0 0 7 ++ M-record 1 0 7)) (planned 1 17 10 40) (row 1 7 17 10 ∷ [])
+    ∷ planned-case (cheaper-down (M-record 0 0 5)) (planned 1 10 10 40) (row 1 0 10 10 ∷ [])
+    ∷ planned-case (cheaper-down (M-record 1 0 5)) (planned 1 10 20 30) (row 0 0 10 20 ∷ [])
+    ∷ planned-case (cheaper-down (M-record 0 9 12 ++ M-record 1 5 8)) (planned 1 18 10 40) (row 1 8 18 10 ∷ [])
+    ∷ refused-case (cheaper-down (M-record 1 0 5 ++ M-record 0 9 12)) 3 23
+    ∷ planned-case (cheaper-down (four-windows ++ M-record 1 0 5)) (planned 1 15 10 40) (row 1 5 15 10 ∷ [])
     ∷ []
 
 pub in-corners : All-given corners
 unfolding
     given near-means best-past-budget equal-finishes two-tasks deadlines beside waits gap-of between-rows two-gaps ready-past-the-gap
-    billed cheaper-of sample S corners
+    billed cheaper-of down four-windows past-two-bytes down-from cheaper-down sample S corners
 in-corners =
-    (refl, (refl, (refl, (refl, (refl, (refl, (refl, (refl, (refl, (refl, (refl, (refl, (refl, (refl, (refl, (refl, (refl, (refl, (refl, (refl, (refl, (refl, (refl, (refl, (refl, (refl, (refl, (refl, (refl, (refl, (refl, (refl, (refl, (refl, (refl, (refl, (refl, tt)))))))))))))))))))))))))))))))))))))
+    (refl, (refl, (refl, (refl, (refl, (refl, (refl, (refl, (refl, (refl, (refl, (refl, (refl, (refl, (refl, (refl, (refl, (refl, (refl, (refl, (refl, (refl, (refl, (refl, (refl, (refl, (refl, (refl, (refl, (refl, (refl, (refl, (refl, (refl, (refl, (refl, (refl, (refl, (refl, (refl, (refl, (refl, (refl, (refl, (refl, (refl, (refl, (refl, (refl, (refl, (refl, (refl, (refl, (refl, (refl, (refl, (refl, (refl, (refl, (refl, (refl, (refl, (refl, (refl, (refl, (refl, (refl, (refl, tt))))))))))))))))))))))))))))))))))))))))))))))))))))))))))))))))))))
 
 -- A least amount of 7 for 3 minutes at 2 is 42 for 9 minutes at 4: of the request so multiplied, and of the multiplied workflow.
 pub minimum-multiplied :
@@ -158,6 +210,16 @@ pub minimum-multiplied :
     × (answer-multiplied 3 2 (billed 20 3 2 7) ≡ planned 1 9 42 78)
 unfolding given billed answer-multiplied
 minimum-multiplied = (refl, refl)
+
+-- Down from 5 to 9 is down from 15 to 27, and 6 minutes are 18: of the request so multiplied, and of the multiplied workflow.
+abbrev windows-by-3 : List ℕ
+windows-by-3 = H-record 1 1 300 ++ P-record 0 2 ++ M-record 0 15 27 ++ T-record 0 "one     " ++ W-record 0 0 18 ++ bytes "Z"
+
+pub window-multiplied :
+    (answer windows-by-3 64 ≡ planned 1 45 36 264)
+    × (answer-multiplied 3 2 (down (M-record 0 5 9) 6) ≡ planned 1 45 36 264)
+unfolding given down answer-multiplied
+window-multiplied = (refl, refl)
 
 -- The kind that each processor was read in: a `Q` with minimum 0 is a `Q`.
 pub kinds-kept :

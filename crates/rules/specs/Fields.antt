@@ -5,13 +5,14 @@ use lib.ListN.{getD}
 
 -- Each kind's byte, and how many bytes its body has.
 pub data Kind : Type 0 where
-  H D P Q T W E Z : Kind
+  H D P Q M T W E Z : Kind
 
 unfoldable pub kind-byte : Kind → ℕ
 kind-byte H = 0x48
 kind-byte D = 0x44
 kind-byte P = 0x50
 kind-byte Q = 0x51
+kind-byte M = 0x4D
 kind-byte T = 0x54
 kind-byte W = 0x57
 kind-byte E = 0x45
@@ -22,6 +23,7 @@ body H = 6
 body D = 4
 body P = 2
 body Q = 4
+body M = 9
 body T = 9
 body W = 4
 body E = 4
@@ -62,6 +64,15 @@ P-price s at = byte s (at + 2)
 -- "`Q` has the body of `P` plus 2 bytes, the minimum": the processor and its price stand in a `Q` where they stand in a `P`.
 unfoldable pub Q-minimum : List ℕ → ℕ → ℕ
 Q-minimum s at = two-bytes s (at + 3)
+
+unfoldable pub M-processor : List ℕ → ℕ → ℕ
+M-processor s at = byte s (at + 1)
+
+unfoldable pub M-begin : List ℕ → ℕ → ℕ
+M-begin s at = four-bytes s (at + 2)
+
+unfoldable pub M-end : List ℕ → ℕ → ℕ
+M-end s at = four-bytes s (at + 6)
 
 unfoldable pub T-task : List ℕ → ℕ → ℕ
 T-task s at = byte s (at + 1)

@@ -1,9 +1,10 @@
 -- Prices and minutes multiplied: what a request with times a and prices b times another's says, and what is due to it.
 use Prim.Native.Nat.{ℕ, _*_}
+use mathlib.Core.List.{map}
 use mathlib.Core.Bool.{cond}
 use lib.Dec.{eqb}
 use Rattle.rules.specs.Reading.{Deadline, no-deadline, by}
-use Rattle.rules.specs.Workflow.{Workflow}
+use Rattle.rules.specs.Workflow.{Interval, Workflow}
 use Rattle.rules.specs.Rows.{Row}
 use Rattle.rules.specs.Answer.{Answer, planned, refused}
 
@@ -12,7 +13,11 @@ unfoldable pub multiplied-deadline : ℕ → Deadline → Deadline
 multiplied-deadline a no-deadline = no-deadline
 multiplied-deadline a (by d) = by (a * d)
 
--- Times, transfers and any deadline by a, prices by b, minimums and the budget by a times b. "Labels, edges' ends, n and m are equal."
+-- "windows by a"
+unfoldable pub multiplied-interval : ℕ → Interval → Interval
+multiplied-interval a v = record { begin = a * v .begin; end = a * v .end }
+
+-- Times, transfers, windows and any deadline by a, prices by b, minimums and the budget by a times b. "Labels, edges' ends, n and m are equal."
 unfoldable pub multiplied : ℕ → ℕ → Workflow → Workflow
 multiplied a b W =
     record {
@@ -22,6 +27,8 @@ multiplied a b W =
       deadline = multiplied-deadline a (W .deadline);
       price = λ j. b * W .price j;
       minimum = λ j. a * b * W .minimum j;
+      busy-at-first = λ j. map (multiplied-interval a) (W .busy-at-first j);
+      clock = a * W .clock;
       minutes = λ i j. a * W .minutes i j;
       edges = W .edges;
       from = W .from;

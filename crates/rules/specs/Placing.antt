@@ -15,7 +15,7 @@ unfoldable pub ready-for : Workflow → List Placed → ℕ → ℕ → ℕ
 ready-for W so-far i j = ready W (λ p. row-of so-far p .processor) (λ p. row-of so-far p .finish) i j
 
 unfoldable pub start-of : Workflow → List Placed → ℕ → ℕ → ℕ
-start-of W so-far i j = start-on (busy so-far j) (ready-for W so-far i j) (W .minutes i j)
+start-of W so-far i j = start-on (busy W so-far j) (ready-for W so-far i j) (W .minutes i j)
 
 -- "Finish = start + w."
 unfoldable pub finish-of : Workflow → List Placed → ℕ → ℕ → ℕ

@@ -4,8 +4,8 @@ use mathlib.Core.Bool.{cond}
 use mathlib.Core.List.{List}
 use lib.ListN.{length}
 use lib.Dec.{ltb, eqb}
-use Rattle.rules.specs.Fields.{D, Z, kind-byte, byte, H-tasks, H-processors, H-budget, D-deadline, E-from, E-to}
-use Rattle.rules.specs.Records.{Read, read, stopped, header-at, deadline-at, processor-at, task-at, minutes-at, Edges, edge-at, end-at}
+use Rattle.rules.specs.Fields.{Kind, D, M, E, kind-byte, size, byte, H-tasks, H-processors, H-budget, D-deadline}
+use Rattle.rules.specs.Records.{Record, Read, read, stopped, header-at, deadline-at, processor-at, window-at, task-at, minutes-at, edge-at, end-at}
 
 -- "a refusal is handed straight up"; what was read goes to the next step, with the place past it.
 unfoldable pub then : {A B : Type 0} → Read A → (ℕ → A → Read B) → Read B
@@ -32,6 +32,22 @@ deadline-part s at =
 unfoldable pub prices-part : List ℕ → ℕ → ℕ → Read (Unit {0})
 prices-part s m at = each (processor-at s) at m
 
+-- How many of the next `most` records, each as long as this kind's, are of this kind, before one of another.
+unfoldable pub how-many : List ℕ → Kind → (at most : ℕ) → ℕ
+how-many s kind at zero = 0
+how-many s kind at (suc most) = cond (eqb (byte s at) (kind-byte kind)) (suc (how-many s kind (at + size kind) most)) 0
+
+-- "any number of" one kind "within the limit": those that stand there, and how many. One more than the limit is never read, so that no more need be
+-- looked for.
+unfoldable pub run-part : List ℕ → Kind → (ℕ → ℕ → Read Record) → (at most : ℕ) → Read ℕ
+run-part s kind part at most =
+    let k = how-many s kind at most in
+    then (each part at k) (λ next _. read next k)
+
+-- "any number of `M` within the limit": four for each of 16 processors.
+unfoldable pub windows-part : List ℕ → ℕ → ℕ → Read ℕ
+windows-part s m at = run-part s M (window-at s m) at 65
+
 -- "for each task 0 to n-1 its `T` followed by `W` for processors 0 to m-1"
 unfoldable pub task-part : List ℕ → ℕ → ℕ → ℕ → Read (Unit {0})
 task-part s m at i = then (task-at s at i) (λ next _. each (λ place j. minutes-at s place i j) next m)
@@ -39,14 +55,9 @@ task-part s m at i = then (task-at s at i) (λ next _. each (λ place j. minutes
 unfoldable pub tasks-part : List ℕ → ℕ → ℕ → ℕ → Read (Unit {0})
 tasks-part s n m at = each (task-part s m) at n
 
--- "any number of `E` within the limit [..]; then `Z`": how many. With the edges before, and k records to read at the most: of 513
--- records one is `Z` or refused, the 513th edge being refused, so that k never runs out (`edges-enough`, crate `good`).
-unfoldable pub edges-part : List ℕ → ℕ → ℕ → Edges → ℕ → Read ℕ
-edges-part s n at before zero = stopped 4 at
-edges-part s n at before (suc k) =
-    let one-more : Edges = record { count = before .count + 1; from = E-from s at; to = E-to s at } in
-    let further = then (edge-at s at n before) (λ next _. edges-part s n next one-more k) in
-    cond (eqb (byte s at) (kind-byte Z)) (then (end-at s at) (λ next _. read next (before .count))) further
+-- "any number of `E` within the limit"
+unfoldable pub edges-part : List ℕ → ℕ → ℕ → Read ℕ
+edges-part s n at = run-part s E (edge-at s n) at 513
 
 -- A good request: "one not refused with 1 to 6". Its numbers, and where its parts begin.
 pub record Request : Type 0 where
@@ -55,6 +66,8 @@ pub record Request : Type 0 where
   pub budget : ℕ
   pub deadline : Deadline
   pub prices-at : ℕ
+  pub windows-at : ℕ
+  pub windows : ℕ
   pub tasks-at : ℕ
   pub edges-at : ℕ
   pub edges : ℕ
@@ -73,11 +86,15 @@ read-request s =
     then (deadline-part s after-header)
     (λ prices-at deadline.
     then (prices-part s m prices-at)
-    (λ tasks-at _.
+    (λ windows-at _.
+    then (windows-part s m windows-at)
+    (λ tasks-at windows.
     then (tasks-part s n m tasks-at)
     (λ edges-at _.
-    then (edges-part s n edges-at (record { count = 0; from = 0; to = 0 }) 513)
-    (λ after-end edges.
+    then (edges-part s n edges-at)
+    (λ after-edges edges.
+    then (end-at s after-edges)
+    (λ after-end _.
     nothing-after s after-end
     (record {
       tasks = n;
@@ -85,7 +102,9 @@ read-request s =
       budget = H-budget s 0;
       deadline = deadline;
       prices-at = prices-at;
+      windows-at = windows-at;
+      windows = windows;
       tasks-at = tasks-at;
       edges-at = edges-at;
       edges = edges;
-    }))))))
+    }))))))))

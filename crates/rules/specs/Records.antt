@@ -1,12 +1,12 @@
 -- Reading one record: "Inside a record: kind (a missing byte gives 1), whole body, the 513th edge, 3, 4 in field order, 5."
-use Prim.Native.Nat.{ℕ, suc, zero, _+_}
+use Prim.Native.Nat.{ℕ, suc, zero, _+_, _*_, _-_}
 use mathlib.Core.Bool.{Bool, true, false, cond, not, _&&_, _||_}
 use mathlib.Core.List.{List, [], _∷_, _++_}
 use lib.ListN.{length}
 use lib.Dec.{leb, ltb, eqb}
 use Rattle.label.specs.Length.{label-length}
-use Rattle.rules.specs.Fields.{Kind, H, D, P, Q, T, W, E, Z, kind-byte, size, byte, H-tasks, H-processors, H-budget, D-deadline, P-processor}
-use Rattle.rules.specs.Fields.{P-price, Q-minimum, T-task, T-label, W-task, W-processor, W-minutes, E-from, E-to, E-transfer}
+use Rattle.rules.specs.Fields.{Kind, H, D, P, Q, M, T, W, E, Z, kind-byte, size, byte, H-tasks, H-processors, H-budget, D-deadline, P-processor}
+use Rattle.rules.specs.Fields.{P-price, Q-minimum, M-processor, M-begin, M-end, T-task, T-label, W-task, W-processor, W-minutes, E-from, E-to, E-transfer}
 
 -- A record with its fields.
 pub data Record : Type 0 where
@@ -14,6 +14,7 @@ pub data Record : Type 0 where
   deadline : (deadline : ℕ) → Record
   price : (processor price : ℕ) → Record
   minimum : (processor price minimum : ℕ) → Record
+  window : (processor begin end : ℕ) → Record
   task : (task label : ℕ) → Record
   minutes : (task processor minutes : ℕ) → Record
   edge : (from to transfer : ℕ) → Record
@@ -93,6 +94,39 @@ minimum-at s at j =
 unfoldable pub processor-at : List ℕ → ℕ → ℕ → Read Record
 processor-at s at j = cond (eqb (byte s at) (kind-byte Q)) (minimum-at s at j) (price-at s at j)
 
+-- Records of one kind that stand one after the other: one with k before it, at `at`, is the first, or follows the one that ends there.
+unfoldable pub follows : Kind → (ℕ → ℕ → Bool) → (at k : ℕ) → Bool
+follows kind after at k = eqb k 0 || after (at - size kind) at
+
+-- The record at `at` is above the one at `before`: by its first number, and where these are equal by its second.
+unfoldable pub above : (first second : ℕ → ℕ) → (before at : ℕ) → Bool
+above first second before at =
+    ltb (first before) (first at) || (eqb (first before) (first at) && ltb (second before) (second at))
+
+-- Nor is it "one that begins before the same processor's previous window ends".
+unfoldable pub apart : List ℕ → (before at : ℕ) → Bool
+apart s before at = not (eqb (M-processor s before) (M-processor s at)) || leb (M-end s before) (M-begin s at)
+
+-- "a processor's fifth window": windows rise by processor, so that the four before it are of its processor where the fourth before it is.
+unfoldable pub fifth : List ℕ → (at k : ℕ) → Bool
+fifth s at k = leb 4 k && eqb (M-processor s (at - 4 * size M)) (M-processor s at)
+
+-- "a window's processor below m, its begin below its end, its end at most 20,000, at most four windows of a processor"
+unfoldable pub window-ranges : List ℕ → (m at k : ℕ) → List ℕ
+window-ranges s m at k =
+    unless (ltb (M-processor s at) m) 4
+    ∷ unless (ltb (M-begin s at) (M-end s at)) 4
+    ∷ unless (leb (M-end s at) 20_000) 4
+    ∷ unless (not (fifth s at k)) 4
+    ∷ []
+
+-- A window with k before it: "rising by processor, then begin, and none that begins before the same processor's previous window ends".
+unfoldable pub window-at : List ℕ → (m at k : ℕ) → Read Record
+window-at s m at k =
+    record-at s at M
+    (unless (follows M (above (M-processor s) (M-begin s)) at k) 3 ∷ unless (follows M (apart s) at k) 3 ∷ window-ranges s m at k)
+    (window (M-processor s at) (M-begin s at) (M-end s at))
+
 -- Task i: its eight bytes are a label.
 unfoldable pub task-at : List ℕ → ℕ → ℕ → Read Record
 task-at s at i =
@@ -110,18 +144,6 @@ minutes-at s at i j =
     (unless (eqb number i) 3 ∷ unless (eqb processor j) 3 ∷ unless (within 1 w 2_000) 4 ∷ [])
     (minutes number processor w)
 
--- The edges read before this one: how many, and the last one's ends. The first edge has none before it.
-pub record Edges : Type 0 where
-  pub count : ℕ
-  pub from : ℕ
-  pub to : ℕ
-
--- "each pair (from, to) greater than the one before, by from first and then to"
-unfoldable pub rising : Edges → ℕ → ℕ → Bool
-rising before from to =
-    eqb (before .count) 0
-    || (ltb (before .from) from || (eqb (before .from) from && ltb (before .to) to))
-
 -- "transfer 0..1,000, edge ends below n and unequal": "4 in field order"
 unfoldable pub edge-ranges : ℕ → ℕ → ℕ → ℕ → List ℕ
 edge-ranges from to transfer n =
@@ -130,14 +152,15 @@ edge-ranges from to transfer n =
     ∷ unless (within 0 transfer 1_000) 4
     ∷ []
 
--- "at most 512 edges": "the 513th edge, 3, 4 in field order"
-unfoldable pub edge-at : List ℕ → ℕ → ℕ → Edges → Read Record
-edge-at s at n before =
+-- An edge with k before it: "at most 512 edges", "the 513th edge, 3, 4 in field order", "each pair (from, to) greater than the one before, by from
+-- first and then to".
+unfoldable pub edge-at : List ℕ → (n at k : ℕ) → Read Record
+edge-at s n at k =
     let from = E-from s at in
     let to = E-to s at in
     let transfer = E-transfer s at in
     record-at s at E
-    (unless (ltb (before .count) 512) 4 ∷ unless (rising before from to) 3 ∷ edge-ranges from to transfer n)
+    (unless (ltb k 512) 4 ∷ unless (follows E (above (E-from s) (E-to s)) at k) 3 ∷ edge-ranges from to transfer n)
     (edge from to transfer)
 
 unfoldable pub end-at : List ℕ → ℕ → Read Record

@@ -3,7 +3,7 @@ use Prim.Native.Nat.{ℕ, _+_, max}
 use mathlib.Core.Bool.{Bool, false, cond, _||_}
 use mathlib.Core.List.{List, [], _∷_}
 use lib.Dec.{eqb}
-use Rattle.rules.specs.Start.{Interval}
+use Rattle.rules.specs.Workflow.{Interval, Workflow, busy-with}
 
 -- "row i for task i: processor, start, finish, cost"
 pub record Row : Type 0 where
@@ -28,12 +28,14 @@ unfoldable pub is-placed : List Placed → ℕ → Bool
 is-placed [] i = false
 is-placed (p ∷ so-far) i = eqb (p .task) i || is-placed so-far i
 
--- What processor j is busy with.
-unfoldable pub busy : List Placed → ℕ → List Interval
-busy [] j = []
-busy (p ∷ so-far) j =
-    let r = p .row in
-    cond (eqb (r .processor) j) (record { begin = r .start; end = r .finish } ∷ busy so-far j) (busy so-far j)
+-- The minutes that a row takes up.
+abbrev pub taken-up : Row → Interval
+taken-up r = record { begin = r .start; end = r .finish }
+
+-- "what j is busy with at first are its windows, and each row placed there is one interval more"
+unfoldable pub busy : Workflow → List Placed → ℕ → List Interval
+busy W [] = W .busy-at-first
+busy W (p ∷ so-far) = busy-with (p .row .processor) (taken-up (p .row)) (busy W so-far)
 
 -- "the costs already chosen"
 unfoldable pub spent : List Placed → ℕ

@@ -4,7 +4,7 @@ use mathlib.Core.Bool.{Bool, true, cond, not, _&&_}
 use mathlib.Core.List.{List, [], _∷_, List·Memᴰ}
 use lib.Dec.{eqb, ltb}
 use Rattle.rules.specs.Folds.{largest}
-use Rattle.rules.specs.Workflow.{Workflow}
+use Rattle.rules.specs.Workflow.{Interval, Workflow}
 
 -- When the data of edge e is on processor j: "finish(p), plus the transfer if p sits on another processor".
 -- `sits` and `ends` say on which processor a placed task is and when it finishes.
@@ -13,14 +13,9 @@ arrival W sits ends j e =
     let p = W .from e in
     ends p + cond (eqb (sits p) j) 0 (W .transfer e)
 
--- "A task's data is ready on j at the largest, over its predecessors p, [..]; 0 without predecessors."
+-- "A task's data is ready on j at the largest, over its predecessors p, [..]; 0 without predecessors": and not before the clock, which is 0 for a request.
 unfoldable pub ready : Workflow → (sits ends : ℕ → ℕ) → ℕ → ℕ → ℕ
-ready W sits ends i j = largest (W .edges) (λ e. cond (eqb (W .to e) i) (arrival W sits ends j e) 0)
-
--- What a processor is busy with: from `begin` on, up to `end`.
-pub record Interval : Type 0 where
-  pub begin : ℕ
-  pub end : ℕ
+ready W sits ends i j = max (W .clock) (largest (W .edges) (λ e. cond (eqb (W .to e) i) (arrival W sits ends j e) 0))
 
 -- The minutes of a task that starts at t.
 abbrev pub minutes-from : (t minutes : ℕ) → Interval
@@ -34,7 +29,8 @@ Overlap u v = max (u .begin) (v .begin) < min (u .end) (v .end)
 abbrev pub Free : List Interval → (minutes t : ℕ) → Type 0
 Free busy minutes t = (v : Interval) → List·Memᴰ v busy → Overlap (minutes-from t minutes) v → ⊥
 
--- "Its start on j is the least minute, not before that, at which the task's minutes overlap no row already placed there": as it reads.
+-- "Its start on j is the least minute, not before that, at which the task's minutes overlap no row already placed there and no window of j":
+-- as it reads.
 pub record Starts (busy : List Interval) (ready minutes t : ℕ) : Type 0 where
   pub not-before-ready : ready ≤ t
   pub overlaps-nothing : Free busy minutes t
