@@ -4,7 +4,7 @@ use mathlib.Core.Path.{_≡_}
 use mathlib.Core.List.{List, List·Memᴰ}
 use lib.ListN.{length}
 use Rattle.rules.specs.Folds.{listing}
-use Rattle.rules.specs.Start.{Interval}
+use Rattle.rules.specs.Workflow.{Interval}
 use Rattle.laws.specs.Stores.{at}
 use Rattle.busy.specs.declared.Processors.{Processors}
 

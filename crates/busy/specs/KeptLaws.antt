@@ -6,7 +6,8 @@ use native.Mathlib.Decide.{decLe}
 use native.Mathlib.Omega.{arith}
 use lib.ListN.{replicate, List·getD-eq-default}
 use Rattle.rules.specs.Folds.{listing}
-use Rattle.rules.specs.Start.{Interval, minutes-from, Overlap, Free}
+use Rattle.rules.specs.Workflow.{Interval}
+use Rattle.rules.specs.Start.{minutes-from, Overlap, Free}
 use Rattle.laws.specs.Listing.{stands-in-listing, in-listing}
 use Rattle.laws.specs.Stores.{at, repeated}
 use Rattle.laws.specs.Filled.{AtMost}

@@ -3,7 +3,8 @@ use Prim.Native.Nat.{ℕ, _+_}
 use mathlib.Core.List.{List}
 use Rattle.rules.specs.Workflow.{Workflow}
 use Rattle.rules.specs.Ranks.{cost}
-use Rattle.rules.specs.Start.{Interval, start-on}
+use Rattle.rules.specs.Workflow.{Interval}
+use Rattle.rules.specs.Start.{start-on}
 use Rattle.rules.specs.Method.{Question, Method}
 use Rattle.hand.specs.declared.Row.{Row}
 

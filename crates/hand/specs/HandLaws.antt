@@ -5,7 +5,8 @@ use mathlib.Core.List.{List}
 use native.Mathlib.Omega.{arith}
 use Rattle.rules.specs.Workflow.{Workflow}
 use Rattle.rules.specs.Ranks.{cost}
-use Rattle.rules.specs.Start.{Interval, start-on}
+use Rattle.rules.specs.Workflow.{Interval}
+use Rattle.rules.specs.Start.{start-on}
 use Rattle.rules.specs.Method.{Question, HBCS}
 use Rattle.good.specs.Ranges as good
 use Rattle.laws.specs.Bounds.{ready-most, asked-finish-most, total-most, budget-most}

@@ -1,14 +1,18 @@
 -- Bounds of what is computed for a request that passes reading, each from the ranges of the rules: 1 to 64 tasks, 1 to 16 processors, 1 to 2,000 minutes,
--- transfers of 0 to 1,000 minutes, prices of 0 to 100, minimums of 0 to 10,000, a budget of 0 to 20,000,000.
+-- transfers of 0 to 1,000 minutes, windows that end by 20,000, prices of 0 to 100, minimums of 0 to 10,000, a budget of 0 to 20,000,000.
 use Prim.Native.Nat.{ℕ, _+_, _*_}
 
 -- Minutes that a task adds to a plan's length: the wait for its data, and its own minutes.
 abbrev pub added-most : ℕ
 added-most = 1_000 + 2_000
 
--- A finish, and so a plan's length: 64 tasks.
+-- The clock, and the end of what a processor is busy with at first: of a window.
+abbrev pub first-most : ℕ
+first-most = 20_000
+
+-- A finish, and so a plan's length: 64 tasks, where the first may wait for the last window to end.
 abbrev pub finish-most : ℕ
-finish-most = 64 * added-most
+finish-most = first-most + 64 * added-most
 
 -- A ready minute: a transfer after a finish.
 abbrev pub ready-most : ℕ
@@ -16,7 +20,7 @@ ready-most = finish-most + 1_000
 
 -- A finish that the choice is asked about: that of a task that is ready last, rounded up.
 abbrev pub asked-finish-most : ℕ
-asked-finish-most = 200_000
+asked-finish-most = 220_000
 
 -- A task's cost: 2,000 minutes at a price of 100, which is more than any minimum.
 abbrev pub cost-most : ℕ

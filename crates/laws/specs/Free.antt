@@ -6,7 +6,8 @@ use mathlib.Core.List.{List, [], _∷_, List·Memᴰ, List·Memᴰ·not-nil, Lis
 use mathlib.Core.Logic.{_⊎_, inl, inr, ⊎-elim}
 use native.Mathlib.Omega.{arith}
 use borrow.Author.Tests.{ltb-false, le-ltb, not-true}
-use Rattle.rules.specs.Start.{Interval, minutes-from, Overlap, Free, overlap, free, latest-end}
+use Rattle.rules.specs.Workflow.{Interval}
+use Rattle.rules.specs.Start.{minutes-from, Overlap, Free, overlap, free, latest-end}
 use Rattle.laws.specs.Tests.{and-both}
 use Rattle.laws.specs.Numbers.{below-or-on}
 

@@ -22,5 +22,6 @@ pub mod Free
 pub mod StartLaws
 pub mod SameStart
 pub mod LatestFinish
+pub mod Begun
 pub mod Filled
 pub mod FilledLaws

@@ -4,7 +4,8 @@ use mathlib.Core.Path.{_≡_, sym, _∙_}
 use mathlib.Core.List.{List, _∷_, List·Memᴰ, List·Memᴰ·cases-cons, List·Memᴰ·head, List·Memᴰ·tail}
 use mathlib.Core.Logic.{⊎-elim}
 use native.Mathlib.Omega.{arith}
-use Rattle.rules.specs.Start.{Interval, Free, start-on}
+use Rattle.rules.specs.Workflow.{Interval}
+use Rattle.rules.specs.Start.{Free, start-on}
 use Rattle.laws.specs.Numbers.{below-or-on}
 use Rattle.laws.specs.StartLaws.{start-is, starts-there, start-at-most}
 

@@ -9,7 +9,9 @@ use mathlib.Core.Logic.{_⊎_, inl, inr, ⊎-elim}
 use native.Mathlib.Decide.{ℕ-discrete}
 use native.Mathlib.Nat.{mul-zero, mul-add}
 use native.Mathlib.Omega.{arith}
-use Rattle.rules.specs.Start.{Interval, minutes-from, Free, Starts, overlap, free, latest-end, if-free, least-end, start-on}
+use Rattle.rules.specs.Workflow.{Interval}
+use Rattle.rules.specs.Start.{minutes-from, Free, Starts, overlap, free, latest-end, if-free, least-end, start-on}
+use Rattle.rules.specs.Multiplied.{multiplied-interval}
 use Rattle.laws.specs.Tests.{cond-either, cond-mapped, ltb-multiplied}
 use Rattle.laws.specs.Numbers.{min-either, max-multiplied, min-multiplied}
 use Rattle.laws.specs.Free.{free-told, free-tested, latest-end-bounds, latest-end-at-most}
@@ -133,9 +135,6 @@ module _ (busy : List Interval) (ready minutes : ℕ) where
       )
 
 -- All times multiplied by a number of at least 1.
-unfoldable pub multiplied-interval : ℕ → Interval → Interval
-multiplied-interval a v = record { begin = a * v .begin; end = a * v .end }
-
 latest-end-multiplied : (a : ℕ) (vs : List Interval) → latest-end (map (multiplied-interval a) vs) ≡ a * latest-end vs
 unfolding latest-end multiplied-interval
 latest-end-multiplied a [] = sym (mul-zero a)

@@ -20,7 +20,7 @@ use Rattle.rules.specs.Workflow.{edge-place, read-in, busy-with, window-
 use Rattle.rules.specs.Labels.{part-of, label-place, label-part, label-in, label-lookup, label}
 use Rattle.rules.specs.Cycle.{linked, leads-through, back-to-itself, cyclic, lowest-in-cycle}
 use Rattle.rules.specs.Ranks.{cost, lowest-cost, cheapest-total, rank-by, rank-within, R, next-task}
-use Rattle.rules.specs.Start.{arrival, ready, overlap, free, latest-end, if-free, least-end, start-on}
+use Rattle.rules.specs.Start.{arrival, arrived, ready, overlap, free, latest-end, if-free, least-end, start-on}
 use Rattle.rules.specs.Method.{best, may-be-taken, latest-finish, B, F, or-one, score, preferred, HBCS}
 use Rattle.rules.specs.Rows.{Row, row-of, is-placed, busy, spent, length-of}
 use Rattle.rules.specs.Placing.{ready-for, start-of, finish-of, RB, RCB, question, row-on, place-next, place}
@@ -105,7 +105,7 @@ unfolding
     part-of label-place label-part label-in label-lookup label
     linked leads-through back-to-itself cyclic lowest-in-cycle
     cost lowest-cost cheapest-total rank-by rank-within R next-task
-    arrival ready overlap free latest-end if-free least-end start-on
+    arrival arrived ready overlap free latest-end if-free least-end start-on
     best may-be-taken latest-finish B F or-one score preferred HBCS
     row-of is-placed busy ready-for start-of finish-of spent length-of RB RCB question row-on place-next place
     refuse too-late placed-outcome outcome-by outcome-read outcome answer-of answer written rows-after

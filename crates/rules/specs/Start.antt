@@ -13,9 +13,13 @@ arrival W sits ends j e =
     let p = W .from e in
     ends p + cond (eqb (sits p) j) 0 (W .transfer e)
 
--- "A task's data is ready on j at the largest, over its predecessors p, [..]; 0 without predecessors": and not before the clock, which is 0 for a request.
+-- "A task's data is ready on j at the largest, over its predecessors p, [..]; 0 without predecessors."
+unfoldable pub arrived : Workflow → (sits ends : ℕ → ℕ) → ℕ → ℕ → ℕ
+arrived W sits ends i j = largest (W .edges) (λ e. cond (eqb (W .to e) i) (arrival W sits ends j e) 0)
+
+-- And not before the clock, which is 0 for a request.
 unfoldable pub ready : Workflow → (sits ends : ℕ → ℕ) → ℕ → ℕ → ℕ
-ready W sits ends i j = max (W .clock) (largest (W .edges) (λ e. cond (eqb (W .to e) i) (arrival W sits ends j e) 0))
+ready W sits ends i j = max (W .clock) (arrived W sits ends i j)
 
 -- The minutes of a task that starts at t.
 abbrev pub minutes-from : (t minutes : ℕ) → Interval

@@ -10,7 +10,7 @@ use lib.Dec.{eqb}
 use borrow.Author.Tests.{eq-eqb}
 use Rattle.rules.specs.Workflow.{Workflow}
 use Rattle.rules.specs.Ranks.{cost}
-use Rattle.rules.specs.Start.{Interval}
+use Rattle.rules.specs.Workflow.{Interval}
 use Rattle.rules.specs.Rows.{Row, Placed, row-of, is-placed, busy}
 use Rattle.rules.specs.Method.{Method}
 use Rattle.rules.specs.Placing.{ready-for, start-of, finish-of, row-on}

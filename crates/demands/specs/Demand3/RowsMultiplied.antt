@@ -5,7 +5,7 @@ use mathlib.Core.Bool.{cond, _||_}
 use mathlib.Core.List.{List, [], _∷_, map}
 use native.Mathlib.Nat.{mul-zero, mul-add}
 use lib.Dec.{eqb}
-use Rattle.rules.specs.Start.{Interval}
+use Rattle.rules.specs.Workflow.{Interval}
 use Rattle.rules.specs.Rows.{Placed, row-of, is-placed, busy, spent, length-of}
 use Rattle.rules.specs.Multiplied.{multiplied-row}
 use Rattle.laws.specs.Tests.{cond-mapped}

@@ -1,0 +1,111 @@
+-- A workflow that begins otherwise: what its processors are busy with at first, and its clock, handed in. So a board's bookings and clock can be, and a
+-- request's own windows are.
+use Prim.Native.Nat.{ℕ, zero, suc, _+_, _≤_, _<_}
+use mathlib.Core.Path.{_≡_, refl, sym, ap, _∙_}
+use mathlib.Core.Bool.{Bool, true, false, cond, not}
+use mathlib.Core.List.{List, [], _∷_}
+use lib.Dec.{eqb}
+use Rattle.rules.specs.Orders as orders
+use Rattle.rules.specs.Orders.{tie, higher, first}
+use Rattle.rules.specs.Workflow.{Interval, Workflow, busy-with}
+use Rattle.rules.specs.Ranks.{cost, lowest-cost, rank-by, rank-within, R, next-task}
+use Rattle.rules.specs.Start.{arrival, arrived, ready, start-on}
+use Rattle.rules.specs.Rows.{Placed, is-placed, taken-up, busy}
+use Rattle.rules.specs.Method.{Method}
+use Rattle.rules.specs.Placing.{ready-for, start-of, finish-of, RB, RCB, question, row-on, place-next, place}
+use Rattle.laws.specs.SameStart.{SameStart, same-start-more}
+use Rattle.laws.specs.Method.{Same, ChoosesAmong}
+
+unfoldable pub begun : (ℕ → List Interval) → (clock : ℕ) → Workflow → Workflow
+begun busy-at-first clock W =
+    record {
+      tasks = W .tasks;
+      processors = W .processors;
+      budget = W .budget;
+      deadline = W .deadline;
+      price = W .price;
+      minimum = W .minimum;
+      busy-at-first = busy-at-first;
+      clock = clock;
+      minutes = W .minutes;
+      edges = W .edges;
+      from = W .from;
+      to = W .to;
+      transfer = W .transfer;
+    }
+
+-- Ranks don't depend on that.
+rank-begun : (f : ℕ → List Interval) (clock : ℕ) (W : Workflow) (most : ℕ) → rank-within (begun f clock W) most ≡ rank-within W most
+unfolding rank-within rank-by begun
+rank-begun f clock W zero = refl
+rank-begun f clock W (suc most) = ap (rank-by W) (rank-begun f clock W most)
+
+pub R-begun : (f : ℕ → List Interval) (clock : ℕ) (W : Workflow) → R (begun f clock W) ≡ R W
+unfolding R begun
+R-begun f clock W = rank-begun f clock W (W .tasks)
+
+-- Where each processor is busy at first with what gives the same starts, the tasks are placed alike.
+module _ {M : Method} (among : ChoosesAmong M) (W : Workflow) (some : 1 ≤ W .processors) (clock : ℕ) (f g : ℕ → List Interval)
+    (alike : (j : ℕ) → j < W .processors → SameStart (f j) (g j)) where
+  abbrev one : Workflow
+  one = begun f clock W
+
+  abbrev other : Workflow
+  other = begun g clock W
+
+  busy-alike : (rows : List Placed) (j : ℕ) → j < W .processors → SameStart (busy one rows j) (busy other rows j)
+  unfolding busy busy-with begun
+  busy-alike [] j l = alike j l
+  busy-alike (p ∷ rows) j l = either (eqb (p .row .processor) j) (busy-alike rows j l)
+    where
+      either :
+          (t : Bool) → SameStart (busy one rows j) (busy other rows j)
+          → SameStart (cond t (taken-up (p .row) ∷ busy one rows j) (busy one rows j))
+          (cond t (taken-up (p .row) ∷ busy other rows j) (busy other rows j))
+      either true same = same-start-more (taken-up (p .row)) _ _ same
+      either false same = same
+
+  module _ (rows : List Placed) where
+    start-alike : (i j : ℕ) → j < W .processors → start-of one rows i j ≡ start-of other rows i j
+    unfolding start-of ready-for ready arrived arrival begun
+    start-alike i j l = busy-alike rows j l _ _
+
+    finish-alike : (i j : ℕ) → j < W .processors → finish-of one rows i j ≡ finish-of other rows i j
+    unfolding finish-of begun
+    finish-alike i j l = ap (λ t. t + W .minutes i j) (start-alike i j l)
+
+    choice-alike : (i : ℕ) → M (question one rows i) ≡ M (question other rows i)
+    unfolding question RB RCB cost lowest-cost begun
+    choice-alike i =
+        among .alike _ _ some (record { processors = refl; cost = λ j l. refl; finish = λ j l. finish-alike i j l; RB = refl; RCB = refl })
+
+    row-alike : (i j : ℕ) → j < W .processors → row-on one rows i j ≡ row-on other rows i j
+    unfolding row-on cost begun
+    row-alike i j l =
+        λ t. record { processor = j; start = start-alike i j l t; finish = finish-alike i j l t; cost = cost W i j }
+
+    same-task : next-task one (is-placed rows) ≡ next-task other (is-placed rows)
+    unfolding next-task begun
+    same-task =
+        ap (λ r. first (W .tasks) (orders.among (λ i. not (is-placed rows i)) (higher r tie))) (R-begun f clock W ∙ sym (R-begun g clock W))
+
+    taken : (i : ℕ) → M (question other rows i) < W .processors
+    unfolding question begun
+    taken i = among .takes-processor _ some
+
+    next-alike : place-next M one rows ≡ place-next M other rows
+    unfolding place-next
+    next-alike =
+        ap (λ i. record { task = i; row = row-on one rows i (M (question one rows i)) } ∷ rows) same-task
+        ∙ go (next-task other (is-placed rows))
+      where
+        go : (i : ℕ) → record { task = i; row = row-on one rows i (M (question one rows i)) } ∷ rows
+            ≡ record { task = i; row = row-on other rows i (M (question other rows i)) } ∷ rows
+        go i =
+            ap (λ r. record { task = i; row = r } ∷ rows)
+            (ap (row-on one rows i) (choice-alike i) ∙ row-alike i (M (question other rows i)) (taken i))
+
+  pub place-begun : (k : ℕ) → place M one k ≡ place M other k
+  unfolding place
+  place-begun zero = refl
+  place-begun (suc k) = ap (place-next M one) (place-begun k) ∙ next-alike (place M other k)
