@@ -1,7 +1,7 @@
 -- Two inputs that agree up to N bytes have the same record wherever it ends within N: the same bytes are looked at, and the same
 -- comparisons with the length made.
 use mathlib.Core.Path.{_≡_, sym}
-use Prim.Native.Nat.{ℕ, suc, _+_, _<_, _≤_}
+use Prim.Native.Nat.{ℕ, suc, _+_, _*_, _-_, _<_, _≤_}
 use native.Mathlib.Omega.{arith}
 use mathlib.Core.List.{List, []}
 use lib.ListN.{length}
@@ -10,10 +10,11 @@ use borrow.Author.Tests.{leb-true, le-leb}
 use Rattle.label.specs.Label.{Label}
 use Rattle.label.specs.Length.{label-length}
 use Rattle.label.specs.Laws.{label-length-is-length, length-is-label-length}
-use Rattle.rules.specs.Fields.{Kind, H, D, P, Q, T, W, E, Z, body, size, byte, two-bytes, four-bytes, H-tasks, H-processors, H-budget, D-deadline}
-use Rattle.rules.specs.Fields.{P-processor, P-price, Q-minimum, T-task, T-label, W-task, W-processor, W-minutes, E-from, E-to, E-transfer}
+use Rattle.rules.specs.Fields.{Kind, H, D, P, Q, M, T, W, E, Z, body, size, byte, two-bytes, four-bytes, H-tasks, H-processors, H-budget, D-deadline}
+use Rattle.rules.specs.Fields.{P-processor, P-price, Q-minimum, M-processor, M-begin, M-end, T-task, T-label, W-task, W-processor, W-minutes, E-from, E-to}
+use Rattle.rules.specs.Fields.{E-transfer}
 use Rattle.rules.specs.Records.{Record, end, opening-by, opening, record-at, header-at, deadline-at, price-checks, price-at, minimum-at, processor-at}
-use Rattle.rules.specs.Records.{task-at, minutes-at, Edges, edge-at, end-at}
+use Rattle.rules.specs.Records.{follows, above, apart, fifth, window-ranges, window-at, task-at, minutes-at, edge-at, end-at}
 
 pub record Agree (N : ℕ) (s t : List ℕ) : Type 0 where
   pub same-byte : (at : ℕ) → at < N → byte s at ≡ byte t at
@@ -90,10 +91,32 @@ module _ {N : ℕ} {s t : List ℕ} (a : Agree N s t) where
   minutes-agrees at i j h =
       rw (a .same-byte (at + 1) (omega arith), a .same-byte (at + 2) (omega arith), two-agree (at + 3) (omega arith)) (record-agrees at W _ _ h)
 
-  pub edge-agrees : (at n : ℕ) (before : Edges) → at + size E ≤ N → edge-at s at n before ≡ edge-at t at n before
-  unfolding edge-at size body E-from E-to E-transfer
-  edge-agrees at n before h =
-      rw (a .same-byte (at + 1) (omega arith), a .same-byte (at + 2) (omega arith), two-agree (at + 3) (omega arith)) (record-agrees at E _ _ h)
+  -- A record's own bytes, and those of the one before it.
+  pub edge-agrees : (n at k : ℕ) → at + size E ≤ N → edge-at s n at k ≡ edge-at t n at k
+  unfolding edge-at follows above size body E-from E-to E-transfer
+  edge-agrees n at k h =
+      rw (
+        a .same-byte (at + 1) (omega arith),
+        a .same-byte (at + 2) (omega arith),
+        two-agree (at + 3) (omega arith),
+        a .same-byte (at - 5 + 1) (omega arith),
+        a .same-byte (at - 5 + 2) (omega arith),
+      )
+      (record-agrees at E _ _ h)
+
+  pub window-agrees : (m at k : ℕ) → at + size M ≤ N → window-at s m at k ≡ window-at t m at k
+  unfolding window-at window-ranges follows above apart fifth size body M-processor M-begin M-end
+  window-agrees m at k h =
+      rw (
+        a .same-byte (at + 1) (omega arith),
+        four-agree (at + 2) (omega arith),
+        four-agree (at + 6) (omega arith),
+        a .same-byte (at - 10 + 1) (omega arith),
+        four-agree (at - 10 + 2) (omega arith),
+        four-agree (at - 10 + 6) (omega arith),
+        a .same-byte (at - 40 + 1) (omega arith),
+      )
+      (record-agrees at M _ _ h)
 
   pub end-agrees : (at : ℕ) → at + size Z ≤ N → end-at s at ≡ end-at t at
   unfolding end-at

@@ -1,21 +1,20 @@
 -- Two inputs that agree up to N bytes have the same parts wherever those end within N, since reading goes forward by whole records.
-use mathlib.Core.Path.{_≡_, refl, ap}
+use mathlib.Core.Path.{_≡_, refl}
 use Prim.Native.Nat.{ℕ, zero, suc, _+_, _*_, _<_, _≤_}
 use native.Mathlib.Nat.{suc-mul, mul-le-mul-right}
 use native.Mathlib.Omega.{arith}
-use mathlib.Core.Bool.{cond}
 use mathlib.Core.List.{List}
-use lib.Dec.{eqb}
-use Rattle.rules.specs.Fields.{D, Q, T, W, E, Z, size, body, kind-byte, byte, D-deadline, E-from, E-to}
-use Rattle.rules.specs.Records.{Read, read, stopped, Edges, end-at}
-use Rattle.rules.specs.Reading.{then, each, deadline-part, prices-part, task-part, tasks-part, edges-part, nothing-after, Request}
+use Rattle.rules.specs.Fields.{Kind, D, Q, M, T, W, E, size, body, D-deadline}
+use Rattle.rules.specs.Records.{Record, Read, read, stopped}
+use Rattle.rules.specs.Reading.{then, each, deadline-part, prices-part, how-many, run-part, windows-part, task-part, tasks-part, edges-part}
+use Rattle.rules.specs.Reading.{nothing-after, Request}
 use Rattle.rules.specs.Workflow.{past-processors}
-use Rattle.good.specs.Reading.{Walks, by-stride, each-ends}
-use Rattle.good.specs.Kinds.{task-read, edge-read}
+use Rattle.good.specs.Reading.{Walks, Steps, by-stride, each-ends}
+use Rattle.good.specs.Kinds.{task-read}
 use Rattle.good.specs.Processors.{processors-walk, past-processors-most}
 use Rattle.good.specs.Parts.{minutes-steps, task-steps}
-use Rattle.good.specs.Edges.{up-to}
-use Rattle.good.specs.Agree.{Agree, four-agree, deadline-agrees, processor-agrees, task-agrees, minutes-agrees, edge-agrees, end-agrees}
+use Rattle.good.specs.Runs.{how-many-at-most, edge-steps, window-steps}
+use Rattle.good.specs.Agree.{Agree, four-agree, deadline-agrees, processor-agrees, window-agrees, task-agrees, minutes-agrees, edge-agrees}
 
 -- The same step, and the same after it wherever it was read.
 pub then-agrees : {A B : Type 0} {x y : Read A} {f g : ℕ → A → Read B} →
@@ -63,17 +62,33 @@ module _ {N : ℕ} {s t : List ℕ} (a : Agree N s t) where
       each-agrees (by-stride d (task-steps s m) at) _ n
       (λ i below. task-part-agrees m (at + i * d) i (omega (arith, suc-mul i d, mul-le-mul-right d below)))
 
-  pub edges-agree : (n at : ℕ) (before : Edges) (k : ℕ) → at + k * size E ≤ N → edges-part s n at before k ≡ edges-part t n at before k
-  unfolding edges-part E-from E-to size body
-  edges-agree n at before zero h = refl
-  edges-agree n at before (suc k) h =
-      let kind = a .same-byte at (omega arith) in
-      let from = a .same-byte (at + 1) (omega arith) in
-      let to = a .same-byte (at + 2) (omega arith) in
-      rw (← kind, ← from, ← to, ← end-agrees a at (omega arith))
-      (ap (cond (eqb (byte s at) (kind-byte Z)) (then (end-at s at) (λ next _. read next (before .count))))
-      (then-agrees (edge-agrees a at n before (omega arith))
-      (λ next _ e. edges-agree n next (up-to s at (before .count)) k (omega (arith, edge-read s at n before e .ends)))))
+  how-many-agrees : (kind : Kind) (at most : ℕ) → at + most * size kind ≤ N → how-many s kind at most ≡ how-many t kind at most
+  unfolding how-many size
+  how-many-agrees kind at zero h = refl
+  how-many-agrees kind at (suc most) h =
+      let fits = suc-mul most (1 + body kind) in
+      rw (a .same-byte at (omega arith), how-many-agrees kind (at + (1 + body kind)) most (omega arith))
+
+  run-agrees : (kind : Kind) {part : ℕ → ℕ → Read Record} → Steps part (size kind) → (other : ℕ → ℕ → Read Record) (at most : ℕ) →
+      ((place k : ℕ) → place + size kind ≤ N → part place k ≡ other place k) → at + most * size kind ≤ N →
+      run-part s kind part at most ≡ run-part t kind other at most
+  unfolding run-part
+  run-agrees kind steps other at most same h =
+      let d : ℕ = size kind in
+      rw (← how-many-agrees kind at most h)
+      (then-agrees (each-agrees (by-stride d steps at) other _ (λ j below.
+      same _ j (omega (arith, suc-mul j d, mul-le-mul-right d (within below))))) (λ next _ _. refl))
+    where
+      within : {j : ℕ} → j < how-many s kind at most → suc j ≤ most
+      within below = omega (arith, how-many-at-most s kind at most)
+
+  pub windows-agree : (m at : ℕ) → at + 65 * size M ≤ N → windows-part s m at ≡ windows-part t m at
+  unfolding windows-part
+  windows-agree m at h = run-agrees M (window-steps s m) _ at 65 (λ place k. window-agrees a m place k) h
+
+  pub edges-agree : (n at : ℕ) → at + 513 * size E ≤ N → edges-part s n at ≡ edges-part t n at
+  unfolding edges-part
+  edges-agree n at h = run-agrees E (edge-steps s n) _ at 513 (λ place k. edge-agrees a n place k) h
 
   pub nothing-agrees : (at : ℕ) (r : Request) → at < N → nothing-after s at r ≡ nothing-after t at r
   unfolding nothing-after

@@ -6,9 +6,9 @@ use native.Mathlib.Omega.{arith}
 use mathlib.Core.List.{List}
 use lib.ListN.{length}
 use borrow.Author.Tests.{lt-ltb}
-use Rattle.rules.specs.Fields.{T, W, E, size, body, P-price, W-minutes, E-from, E-to, E-transfer}
+use Rattle.rules.specs.Fields.{M, T, W, E, size, body, P-price, W-minutes, E-from, E-to, E-transfer}
 use Rattle.rules.specs.Reading.{Request}
-use Rattle.rules.specs.Workflow.{processor-kind, processor-minimum, past-processors, processor-place, task-place, minutes-place, edge-place, workflow}
+use Rattle.rules.specs.Workflow.{processor-kind, processor-minimum, past-processors, processor-place, window-place, task-place, minutes-place, edge-place, workflow}
 use Rattle.good.specs.Good.{Good}
 use Rattle.good.specs.Processors.{past-processors-rise}
 
@@ -27,9 +27,20 @@ module _ (s : List ℕ) (r : Request) (g : Good s r) where
 
   pub processor-inside :
       (j : ℕ) → j < r .processors → processor-place s r j + size (processor-kind s (processor-place s r j)) ≤ length s
-  unfolding processor-place past-processors task-place
+  unfolding processor-place past-processors window-place task-place
   processor-inside j h =
-      omega (arith, past-processors-rise s (r .prices-at) (suc j) (r .processors) h, g .tasks-begin, g .edges-begin, edges-inside)
+      omega (
+        arith,
+        past-processors-rise s (r .prices-at) (suc j) (r .processors) h,
+        g .windows-begin,
+        g .tasks-begin,
+        g .edges-begin,
+        edges-inside,
+      )
+
+  pub window-inside : (e : ℕ) → e < r .windows → window-place r e + size M ≤ length s
+  unfolding window-place task-place
+  window-inside e h = omega (arith, row-inside e (r .windows) (size M) h, g .tasks-begin, g .edges-begin, edges-inside)
 
   pub minutes-inside : (i j : ℕ) → i < r .tasks → j < r .processors → minutes-place r i j + size W ≤ length s
   unfolding minutes-place

@@ -1,21 +1,21 @@
 -- What a record of each kind says when it was read: where the next one begins, and its numbers in their ranges.
-use mathlib.Core.Path.{_≡_}
-use Prim.Native.Nat.{ℕ, _+_, _<_, _≤_}
-use mathlib.Core.Bool.{Bool, true, false, cond, and-eq-true-iff}
+use mathlib.Core.Path.{_≡_, refl}
+use Prim.Native.Nat.{ℕ, _+_, _*_, _-_, _<_, _≤_}
+use mathlib.Core.Bool.{Bool, true, false, cond, not, _&&_, _||_, and-eq-true-iff, false≢true}
 use mathlib.Core.List.{List}
 use lib.ListN.{length}
-use lib.Dec.{eqb}
+use lib.Dec.{leb, ltb, eqb}
 use native.Mathlib.Omega.{arith}
-use borrow.Author.Tests.{leb-true, ltb-true, eqb-false, not-true}
+use borrow.Author.Tests.{leb-true, ltb-true, eqb-true, eqb-false, not-true, le-leb, eq-eqb}
 use Rattle.label.specs.Label.{Label}
 use Rattle.label.specs.Length.{label-length}
 use Rattle.label.specs.Laws.{label-of-label-length}
-use Rattle.rules.specs.Fields.{H, D, P, Q, T, W, E, Z, kind-byte, size, byte, H-tasks, H-processors, H-budget, D-deadline, P-price, Q-minimum, T-label}
-use Rattle.rules.specs.Fields.{W-minutes, E-from, E-to}
+use Rattle.rules.specs.Fields.{Kind, H, D, P, Q, M, T, W, E, Z, kind-byte, size, byte, H-tasks, H-processors, H-budget, D-deadline, P-price, Q-minimum, T-label}
+use Rattle.rules.specs.Fields.{M-processor, M-begin, M-end, W-minutes, E-from, E-to}
 use Rattle.rules.specs.Records.{Record, read, within, header-at, deadline-at, price-checks, price-at, minimum-at, processor-at, task-at, minutes-at}
-use Rattle.rules.specs.Records.{Edges, rising, edge-ranges, edge-at, end-at}
+use Rattle.rules.specs.Records.{follows, above, apart, fifth, window-ranges, window-at, edge-ranges, edge-at, end-at}
 use Rattle.rules.specs.Workflow.{processor-kind, processor-minimum}
-use Rattle.good.specs.Good.{Between, GoodEdge}
+use Rattle.good.specs.Good.{Between, GoodEdge, GoodWindow, Above, Apart}
 use Rattle.good.specs.Records.{passed, record-read}
 
 between : (low x high : ℕ) → within low x high ≡ true → Between low x high
@@ -92,16 +92,73 @@ minutes-read s at i j e =
     let (processor, more) = passed _ 2 _ more in
     (found .ends, between _ _ _ (passed _ 3 _ more .0))
 
-pub record EdgeRead (s : List ℕ) (at n : ℕ) (before : Edges) (next : ℕ) : Type 0 where
+-- A record that is not the first of its kind follows the one before it.
+follows-one : (kind : Kind) (after : ℕ → ℕ → Bool) (at k : ℕ) → follows kind after at k ≡ true → 0 < k → after (at - size kind) at ≡ true
+unfolding follows
+follows-one kind after at k e some = go (eqb k 0) refl e
+  where
+    go : (t : Bool) → eqb k 0 ≡ t → (t || after (at - size kind) at) ≡ true → after (at - size kind) at ≡ true
+    go true none p = absurd (omega (arith, eqb-true k 0 none))
+    go false more p = p
+
+is-above : (first second : ℕ → ℕ) (before at : ℕ) → above first second before at ≡ true → Above first second before at
+unfolding above
+is-above first second before at e = go (ltb (first before) (first at)) (eqb (first before) (first at)) refl refl e
+  where
+    go : (more same : Bool) → ltb (first before) (first at) ≡ more → eqb (first before) (first at) ≡ same →
+        (more || (same && ltb (second before) (second at))) ≡ true → Above first second before at
+    go true same p q t =
+        let less : first before < first at = ltb-true _ _ p in
+        record { by-first = omega arith; then-second = λ equal. absurd (omega arith) }
+    go false true p q t =
+        let equal : first before ≡ first at = eqb-true _ _ q in
+        record { by-first = omega arith; then-second = λ _. ltb-true _ _ t }
+    go false false p q t = absurd (false≢true t)
+
+is-apart : (s : List ℕ) (before at : ℕ) → apart s before at ≡ true → Apart s before at
+unfolding apart
+is-apart s before at e same = go (leb (M-end s before) (M-begin s at)) refl (rw (eq-eqb _ _ same) at e)
+  where
+    go : (t : Bool) → leb (M-end s before) (M-begin s at) ≡ t → (not true || t) ≡ true → M-end s before ≤ M-begin s at
+    go true p t = leb-true _ _ p
+    go false p t = absurd (false≢true t)
+
+-- A window with k before it.
+pub record WindowRead (s : List ℕ) (m at k next : ℕ) : Type 0 where
+  pub ends : next ≡ at + size M
+  pub rises : 0 < k → Above (M-processor s) (M-begin s) (at - size M) at
+  pub apart : 0 < k → Apart s (at - size M) at
+  pub window-in : GoodWindow s m at
+  pub no-fifth : 4 ≤ k → M-processor s (at - 4 * size M) ≡ M-processor s at → ⊥
+
+pub window-read : (s : List ℕ) (m at k : ℕ) {next : ℕ} {was : Record} → window-at s m at k ≡ read next was → WindowRead s m at k next
+unfolding window-at window-ranges fifth
+window-read s m at k e =
+    let found = record-read s at M _ _ e in
+    let (rises, more) = passed _ 2 _ (found .no-fault) in
+    let (apart-there, more) = passed _ 2 _ more in
+    let (processor, more) = passed _ 3 _ more in
+    let (minutes, more) = passed _ 3 _ more in
+    let (end, more) = passed _ 3 _ more in
+    let (few, more) = passed _ 3 _ more in
+    record {
+      ends = found .ends;
+      rises = λ some. is-above _ _ _ _ (follows-one M _ at k rises some);
+      apart = λ some. is-apart s _ at (follows-one M _ at k apart-there some);
+      window-in = record { processor-below = ltb-true _ _ processor; has-minutes = ltb-true _ _ minutes; end-in = leb-true _ _ end };
+      no-fifth = λ four same. false≢true (rw (le-leb 4 k four, eq-eqb _ _ same) at few);
+    }
+
+-- An edge with k before it.
+pub record EdgeRead (s : List ℕ) (n at k next : ℕ) : Type 0 where
   pub ends : next ≡ at + size E
-  pub room : before .count < 512
-  pub rises : rising before (E-from s at) (E-to s at) ≡ true
+  pub room : k < 512
+  pub rises : 0 < k → Above (E-from s) (E-to s) (at - size E) at
   pub edge-in : GoodEdge s n at
 
-pub edge-read : (s : List ℕ) (at n : ℕ) (before : Edges) {next : ℕ} {was : Record} →
-    edge-at s at n before ≡ read next was → EdgeRead s at n before next
+pub edge-read : (s : List ℕ) (n at k : ℕ) {next : ℕ} {was : Record} → edge-at s n at k ≡ read next was → EdgeRead s n at k next
 unfolding edge-at edge-ranges
-edge-read s at n before e =
+edge-read s n at k e =
     let found = record-read s at E _ _ e in
     let (room, more) = passed _ 3 _ (found .no-fault) in
     let (rises, more) = passed _ 2 _ more in
@@ -111,7 +168,7 @@ edge-read s at n before e =
     record {
       ends = found .ends;
       room = ltb-true _ _ room;
-      rises = rises;
+      rises = λ some. is-above _ _ _ _ (follows-one E _ at k rises some);
       edge-in =
           record {
             from-below = ltb-true _ _ from;

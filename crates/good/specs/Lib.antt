@@ -4,7 +4,7 @@ pub mod Records
 pub mod Reading
 pub mod Kinds
 pub mod Processors
-pub mod Edges
+pub mod Runs
 pub mod Parts
 pub mod ReadIsGood
 pub mod RangeLaws
