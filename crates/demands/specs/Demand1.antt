@@ -10,7 +10,6 @@ pub mod DueAt
 pub mod Awaits
 pub mod RecordGoes
 pub mod ReadPasses
-pub mod EdgesPass
 pub mod PartsGo
 pub mod ReadingGoes
 pub mod PartsRead
@@ -79,7 +78,7 @@ labels-are-given s {r} passes i below =
 pub no-stray-byte : (s : List ℕ) (i : ℕ) {b : ℕ} → List·Memᴰ b (label s i) → Listed b
 no-stray-byte s i = each-member Listed (label s i) (label-byte-listed s i)
 
--- "So a good request, one not refused with 1 to 6, has at most 8,413 bytes."
+-- "So a good request, one not refused with 1 to 6, has at most 9,053 bytes."
 pub good-request-length : (s : List ℕ) {r : Request} → PassesReading s r → length s ≤ request-most
 good-request-length s {r} passes = good-length s r (read-is-good s (read-iff-passes s r .1 passes .1))
 

@@ -1,7 +1,8 @@
 -- Demand 2: the plan is the method's. Stated of what the caller gets: the answer, and the rows after the call, in lent rows or in four buffers.
 -- Below: what is due for a workflow, refusals too (`WhatIsDue`), and that it is settled (`DueSettled`); the order of the tasks (`PlacingOrder`); the choice
 -- for each in document 01's words (`ChoiceAsWritten`) and as equation (10) (`Worthiness`), and that one can always be taken (`Affordable`); the start of
--- each in document 02's words (`StartAsWritten`), and its cost by the record of its processor (`CostAsWritten`); R and HEFT's rank (`HEFTRank`,
+-- each in document 02's words (`StartAsWritten`), its cost by the record of its processor (`CostAsWritten`), and that no machine runs it in one of the
+-- windows that stand in the request (`WindowsAsWritten`); R and HEFT's rank (`HEFTRank`,
 -- `HEFTSettled`); when money is the reason (`RefusalNine`). The other files are what these rest on.
 pub mod Lookup
 pub mod Refusals
@@ -26,6 +27,7 @@ pub mod HEFTSettled
 pub mod ChoiceAsWritten
 pub mod StartAsWritten
 pub mod CostAsWritten
+pub mod WindowsAsWritten
 use Prim.Native.Nat.{ℕ, _+_, _-_, _≤_, _<_}
 use mathlib.Core.Path.{_≡_, refl, sym, ap, subst, _∙_}
 use mathlib.Core.Bool.{false}
@@ -46,7 +48,7 @@ use Rattle.demands.specs.Ground.GoodWorkflow.{GoodWorkflow, good-workflo
 use Rattle.demands.specs.Ground.Held.{row-written, row-in-written, StaysFrom, later-rows-kept, later-numbers-kept, SameLengths, lengths-kept}
 use Rattle.demands.specs.Demand1.Stands.{PassesReading}
 use Rattle.demands.specs.Demand1.Reading.{read-iff-passes}
-use Rattle.demands.specs.Demand2.Sound.{RowTrue, Apart}
+use Rattle.demands.specs.Demand2.Sound.{RowTrue, Apart, WhileUp}
 use Rattle.demands.specs.Demand2.WhatIsDue.{MethodsPlan, Placeable}
 use Rattle.demands.specs.Demand2.PlanBehind.{tasks-told, plan-behind}
 
@@ -58,9 +60,10 @@ pub record PlanHeld (W : Workflow) (n l c left : ℕ) (row : ℕ → Row) : Type
   pub cost-sum : c ≡ sum n (λ i. row i .cost)
   pub budget-shared : c + left ≡ W .budget
   pub in-time : too-late (W .deadline) l ≡ false
-  -- Each row is true, no processor runs two tasks at once, and no task starts before its inputs arrived.
+  -- Each row is true, no processor runs two tasks at once or one while it is down, and no task starts before its inputs arrived.
   pub rows-true : (i : ℕ) → i < n → RowTrue W i (row i)
   pub apart : (i k : ℕ) → i < n → k < n → i ≢ k → Apart (row i) (row k)
+  pub while-up : (i : ℕ) → i < n → WhileUp W (row i)
   pub arrived : (e : ℕ) → e < W .edges →
       arrival W (λ p. row p .processor) (λ p. row p .finish) (row (W .to e) .processor) e ≤ row (W .to e) .start
   -- The rows are those of the method's plan: each task in its order, on the processor that the method chooses, at the start that the rule gives.
@@ -89,6 +92,7 @@ held-by W good rows p in-time row same =
       in-time = in-time;
       rows-true = λ i h. rw (same i h) (p .rows-true i h);
       apart = λ i k h g. rw (same i h, same k g) (p .apart i k h g);
+      while-up = λ i h. rw (same i h) (p .while-up i h);
       arrived = λ e h. rw (same (W .from e) (good .from e h), same (W .to e) (good .to e h)) (p .arrived e h);
       placed = rows;
       methods-plan = p;

@@ -17,6 +17,7 @@ use Prim.Native.Nat.{ℕ, _*_, _<_, _≤_}
 use mathlib.Core.List.{List, map}
 use lib.ListN.{length, take}
 use mathlib.Core.Logic.{_≢_}
+use native.Mathlib.Nat.{mul-zero}
 use native.Mathlib.Omega.{arith}
 use borrow.Author.Tests.{ne-eqb}
 use Rattle.rules.specs.Records.{read}
@@ -26,12 +27,14 @@ use Rattle.rules.specs.Rows.{Row}
 use Rattle.rules.specs.Method.{HBCS}
 use Rattle.rules.specs.Answer.{outcome-by, outcome, planned, refused, answer-of, answer, written, rows-after}
 use Rattle.rules.specs.Buffers.{Buffers, rows-lent, row-in, buffers-written, buffers-after}
-use Rattle.rules.specs.Multiplied.{multiplied-deadline, multiplied, multiplied-row, multiplied-place, multiplied-answer}
+use Rattle.rules.specs.Multiplied.{multiplied-deadline, multiplied-interval, multiplied, multiplied-row, multiplied-place, multiplied-answer}
 use Rattle.demands.specs.Demand3.HBCSMultiplied.{HBCS-keeps-choices}
 use Rattle.demands.specs.Demand3.AnswerMultiplied.{multiplied-outcome, outcome-by-multiplied, answer-of-multiplied, written-multiplied, row-in-multiplied}
+use Rattle.good.specs.ReadIsGood.{read-is-good}
+use Rattle.good.specs.RangeLaws.{no-windows-beyond}
 use Rattle.demands.specs.Ground.GoodRequest.{outcome-of-good, ZeroBeyond, workflow-zero-beyond, ends-multiplied, same-everywhere}
 
--- "all times, transfers and any deadline multiplied by a whole a, prices by a whole b, minimums and the budget by a times b": W′ is W so multiplied.
+-- "all times, transfers, windows and any deadline multiplied by a whole a, prices by a whole b, minimums and the budget by a times b": W′ is W so multiplied.
 -- "A request without `D` stays without one. [..] edges' ends, n and m are equal; a `P` may stand beside a `Q` with minimum 0": what is said is said of
 -- workflows, which do not tell these two apart.
 pub record MultipliedBy (a b : ℕ) (W W′ : Workflow) : Type 0 where
@@ -41,6 +44,7 @@ pub record MultipliedBy (a b : ℕ) (W W′ : Workflow) : Type 0 where
   pub deadline : W′ .deadline ≡ multiplied-deadline a (W .deadline)
   pub price : (j : ℕ) → j < W .processors → W′ .price j ≡ b * W .price j
   pub minimum : (j : ℕ) → j < W .processors → W′ .minimum j ≡ a * b * W .minimum j
+  pub windows : (j : ℕ) → j < W .processors → W′ .busy-at-first j ≡ map (multiplied-interval a) (W .busy-at-first j)
   pub minutes : (i j : ℕ) → i < W .tasks → j < W .processors → W′ .minutes i j ≡ a * W .minutes i j
   pub edges : W′ .edges ≡ W .edges
   pub from : (e : ℕ) → e < W .edges → W′ .from e ≡ W .from e
@@ -64,7 +68,7 @@ pub record SamePlanInBuffers (a b : ℕ) (s t : List ℕ) (lent lent′ : Buffer
 outcome-multiplied :
     (a b : ℕ) → 1 ≤ a → 1 ≤ b → (s t : List ℕ) {end end′ : ℕ} {r r′ : Request} → read-request s ≡ read end r → read-request t ≡ read end′ r′
     → MultipliedBy a b (workflow s r) (workflow t r′) → {lent lent′ : ℕ} → lent′ ≡ lent → outcome t lent′ ≡ multiplied-outcome a b (outcome s lent)
-unfolding multiplied
+unfolding multiplied workflow
 outcome-multiplied a b pa pb s t {r = r} {r′ = r′} good good′ by {lent} {lent′} lengths =
     outcome-of-good t good′ lent′
     ∙ ap₂ (outcome-by HBCS) workflows lengths
@@ -77,6 +81,11 @@ outcome-multiplied a b pa pb s t {r = r} {r′ = r′} good good′ by {lent} {l
     W′-ends : ZeroBeyond (workflow t r′)
     W′-ends = workflow-zero-beyond t r′
 
+    windows-multiplied : (j : ℕ) → workflow t r′ .busy-at-first j ≡ map (multiplied-interval a) (workflow s r .busy-at-first j)
+    windows-multiplied j =
+        same-everywhere (by .processors) (no-windows-beyond t r′ (read-is-good t good′))
+        (λ k past. ap (map (multiplied-interval a)) (no-windows-beyond s r (read-is-good s good) k past)) (by .windows) j
+
     workflows : workflow t r′ ≡ multiplied a b (workflow s r)
     workflows =
         λ z. record {
@@ -86,6 +95,8 @@ outcome-multiplied a b pa pb s t {r = r} {r′ = r′} good good′ by {lent} {l
           deadline = by .deadline z;
           price = λ j. same-everywhere (by .processors) (W′-ends .price) (ends-multiplied b (W-ends .price)) (by .price) j z;
           minimum = λ j. same-everywhere (by .processors) (W′-ends .minimum) (ends-multiplied (a * b) (W-ends .minimum)) (by .minimum) j z;
+          busy-at-first = λ j. windows-multiplied j z;
+          clock = sym (mul-zero a) z;
           minutes = λ i j.
               same-everywhere (by .tasks) (W′-ends .task j) (ends-multiplied a (W-ends .task j)) (λ k l.
               same-everywhere (by .processors) (W′-ends .processor k) (ends-multiplied a (W-ends .processor k)) (λ p m. by .minutes k p l m) j) i z;

@@ -4,11 +4,11 @@ use Prim.Native.Nat.{ℕ, zero, suc, _+_, _*_, _<_, _≤_}
 use native.Mathlib.Nat.{mul-le-mul}
 use native.Mathlib.Omega.{arith}
 use mathlib.Core.Bool.{Bool, true, false, cond, and-eq-true-iff}
-use mathlib.Core.List.{List, _∷_, List·Memᴰ, List·Memᴰ·not-nil, List·Memᴰ·cases-cons}
+use mathlib.Core.List.{List, [], _∷_, List·Memᴰ, List·Memᴰ·not-nil, List·Memᴰ·cases-cons}
 use mathlib.Core.Logic.{⊎-elim}
 use lib.ListN.{length}
 use lib.Dec.{eqb}
-use borrow.Author.Tests.{lt-ltb, ltb-true}
+use borrow.Author.Tests.{lt-ltb, ltb-true, ne-eqb}
 use Rattle.rules.specs.Fields.{M-processor, T, W, size, body}
 use Rattle.rules.specs.Reading.{Request}
 use Rattle.rules.specs.Workflow.{Interval, workflow, busy-with, window-of, windows-on, processor-place, window-place, task-place, edge-place}
@@ -65,6 +65,18 @@ good-in-range s r g =
   where
     before : {e : ℕ} → e + 1 < r .edges → e < r .edges
     before h = omega arith
+
+-- A processor that no window is of is busy with none.
+none-on : (s : List ℕ) (r : Request) (j k : ℕ) → ((e : ℕ) → e < k → M-processor s (window-place r e) ≡ j → ⊥) → windows-on s r k j ≡ []
+unfolding windows-on busy-with
+none-on s r j zero other = refl
+none-on s r j (suc k) other =
+    rw (ne-eqb (M-processor s (window-place r k)) j (other k (omega arith))) (none-on s r j k (λ e h. other e (omega arith)))
+
+-- Past the last processor none is busy with a window.
+pub no-windows-beyond : (s : List ℕ) (r : Request) → Good s r → (j : ℕ) → r .processors ≤ j → workflow s r .busy-at-first j ≡ []
+unfolding workflow
+no-windows-beyond s r g j past = none-on s r j (r .windows) (λ e h same. omega (arith, g .window-in e h .processor-below))
 
 -- The records of all tasks take at most 64 times 90 bytes.
 pub tasks-at-most : {n m : ℕ} → n ≤ 64 → m ≤ 16 → n * (size T + m * size W) ≤ 5_760

@@ -7,6 +7,7 @@ use native.Mathlib.Omega.{arith}
 use mathlib.Core.Bool.{Bool, true, false, cond}
 use mathlib.Core.List.{List}
 use lib.Dec.{eqb}
+use borrow.Author.Tests.{eqb-true, eqb-false}
 use Rattle.rules.specs.Fields.{Kind, M, E, size, body, kind-byte, byte, M-processor, M-begin, E-from, E-to}
 use Rattle.rules.specs.Records.{Record, Read, read, stopped, window-at, edge-at}
 use Rattle.rules.specs.Reading.{then, each, how-many, run-part, windows-part, edges-part}
@@ -23,8 +24,39 @@ how-many-at-most s kind at (suc most) = go (eqb (byte s at) (kind-byte kind)) (h
     go true few = omega arith
     go false few = omega arith
 
+-- Those are of this kind, and the next is not.
+pub of-that-kind : (s : List ℕ) (kind : Kind) (at most e : ℕ) → e < how-many s kind at most → byte s (at + e * size kind) ≡ kind-byte kind
+unfolding how-many
+of-that-kind s kind at zero e h = absurd (omega arith)
+of-that-kind s kind at (suc most) e h = go (eqb (byte s at) (kind-byte kind)) refl (of-that-kind s kind (at + size kind) most) e h
+  where
+    go : (t : Bool) → eqb (byte s at) (kind-byte kind) ≡ t →
+        ((e : ℕ) → e < how-many s kind (at + size kind) most → byte s (at + size kind + e * size kind) ≡ kind-byte kind) → (e : ℕ) → e < cond t (suc (how-many s kind (at + size kind) most)) 0 →
+        byte s (at + e * size kind) ≡ kind-byte kind
+    go true is later zero h = let here : at + 0 * size kind ≡ at = omega arith in rw here (eqb-true _ _ is)
+    go true is later (suc e) h =
+        let there : at + suc e * size kind ≡ at + size kind + e * size kind = omega (arith, suc-mul e (size kind)) in
+        rw there (later e (omega arith))
+    go false is later e h = absurd (omega arith)
+
+pub then-another : (s : List ℕ) (kind : Kind) (at most : ℕ) → how-many s kind at most < most →
+    byte s (at + how-many s kind at most * size kind) ≡ kind-byte kind → ⊥
+unfolding how-many
+then-another s kind at zero h e = omega arith
+then-another s kind at (suc most) h e = go (eqb (byte s at) (kind-byte kind)) refl (then-another s kind (at + size kind) most) h e
+  where
+    go : (t : Bool) → eqb (byte s at) (kind-byte kind) ≡ t →
+        (how-many s kind (at + size kind) most < most → byte s (at + size kind + how-many s kind (at + size kind) most * size kind) ≡ kind-byte kind → ⊥) →
+        cond t (suc (how-many s kind (at + size kind) most)) 0 < suc most →
+        byte s (at + cond t (suc (how-many s kind (at + size kind) most)) 0 * size kind) ≡ kind-byte kind → ⊥
+    go true is later h e =
+        let k : ℕ = how-many s kind (at + size kind) most in
+        let there : at + suc k * size kind ≡ at + size kind + k * size kind = omega (arith, suc-mul k (size kind)) in
+        later (omega arith) (rw there at e)
+    go false is later h e = let here : at + 0 * size kind ≡ at = omega arith in eqb-false _ _ is (rw here at e)
+
 -- So many records from `at` on were read, one after the other.
-run-each : (s : List ℕ) (kind : Kind) (part : ℕ → ℕ → Read Record) (at most : ℕ) {next count : ℕ} →
+pub run-each : (s : List ℕ) (kind : Kind) (part : ℕ → ℕ → Read Record) (at most : ℕ) {next count : ℕ} →
     run-part s kind part at most ≡ read next count → each part at count ≡ read next tt
 unfolding run-part
 run-each s kind part at most {next} {count} e =
@@ -50,7 +82,7 @@ pub record EdgesRead (s : List ℕ) (n at next count : ℕ) : Type 0 where
   pub edge-in : (e : ℕ) → e < count → GoodEdge s n (at + e * size E)
   pub rises : (e : ℕ) → e + 1 < count → Above (E-from s) (E-to s) (at + e * size E) (at + (e + 1) * size E)
 
-edges-found : (s : List ℕ) (n at : ℕ) {next count : ℕ} → each (edge-at s n) at count ≡ read next tt → EdgesRead s n at next count
+pub edges-found : (s : List ℕ) (n at : ℕ) {next count : ℕ} → each (edge-at s n) at count ≡ read next tt → EdgesRead s n at next count
 edges-found s n at {next} {count} parts =
     record {
       few = few (decLe count 512);
@@ -81,7 +113,7 @@ pub record WindowsRead (s : List ℕ) (m at next count : ℕ) : Type 0 where
   pub apart : (e : ℕ) → e + 1 < count → Apart s (at + e * size M) (at + (e + 1) * size M)
   pub four : (e : ℕ) → e + 4 < count → M-processor s (at + e * size M) ≡ M-processor s (at + (e + 4) * size M) → ⊥
 
-windows-found : (s : List ℕ) (m at : ℕ) {next count : ℕ} → each (window-at s m) at count ≡ read next tt → WindowsRead s m at next count
+pub windows-found : (s : List ℕ) (m at : ℕ) {next count : ℕ} → each (window-at s m) at count ≡ read next tt → WindowsRead s m at next count
 windows-found s m at {next} {count} parts =
     record {
       ends = each-ends walk count parts;

@@ -38,7 +38,7 @@ how-many s kind at zero = 0
 how-many s kind at (suc most) = cond (eqb (byte s at) (kind-byte kind)) (suc (how-many s kind (at + size kind) most)) 0
 
 -- "any number of" one kind "within the limit": those that stand there, and how many. One more than the limit is never read, so that no more need be
--- looked for.
+-- looked for (`edges-enough` and `windows-enough`, crate `good`).
 unfoldable pub run-part : List ℕ → Kind → (ℕ → ℕ → Read Record) → (at most : ℕ) → Read ℕ
 run-part s kind part at most =
     let k = how-many s kind at most in

@@ -8,7 +8,8 @@ use native.Mathlib.Omega.{arith}
 use lib.ListN.{length}
 use Rattle.rules.specs.Fields.{D, kind-byte, size, byte}
 use Rattle.demands.specs.Demand1.Wanted.{ProcessorKind, as-P, as-Q, Wanted, processor, kind-of, Room, NumbersDue, FieldsInRange, HasLabel, Whole, Passes}
-use Rattle.demands.specs.Demand1.Reads.{DueHere, nothing, IsDue, that-one, a-deadline, or-the-first-processor, either-kind, an-edge, or-the-end}
+use Rattle.demands.specs.Demand1.Reads.{DueHere, nothing, IsDue, that-one, a-deadline, or-the-first-processor, either-kind, a-window, or-the-first-task}
+use Rattle.demands.specs.Demand1.Reads.{an-edge, or-the-end}
 use Rattle.demands.specs.Demand1.Reads.{Fault, no-kind-byte, cut-short, kind-not-due, not-the-one-due, out-of-range, no-room, bad-label, bytes-after}
 
 -- The kinds of processor records are told apart by their bytes, and from `D`.
@@ -33,6 +34,10 @@ due-unique a-deadline (or-the-first-processor {k = k}) e = absurd (no-deadline-k
 due-unique (or-the-first-processor {k = k}) a-deadline e = absurd (no-deadline-kind k 0 e)
 due-unique (or-the-first-processor {k = k}) (or-the-first-processor {k = k′}) e = kinds-told k k′ 0 e
 due-unique (either-kind {k = k} {j = j}) (either-kind {k = k′}) e = kinds-told k k′ j e
+due-unique a-window a-window e = refl
+due-unique a-window or-the-first-task e = absurd (omega arith)
+due-unique or-the-first-task a-window e = absurd (omega arith)
+due-unique or-the-first-task or-the-first-task e = refl
 due-unique an-edge an-edge e = refl
 due-unique an-edge or-the-end e = absurd (omega arith)
 due-unique or-the-end an-edge e = absurd (omega arith)
@@ -43,6 +48,8 @@ nothing-not-due that-one e = let z : _≡_ {A = ℕ} 0 1 = cc in omega arith
 nothing-not-due a-deadline e = let z : _≡_ {A = ℕ} 0 1 = cc in omega arith
 nothing-not-due or-the-first-processor e = let z : _≡_ {A = ℕ} 0 1 = cc in omega arith
 nothing-not-due either-kind e = let z : _≡_ {A = ℕ} 0 1 = cc in omega arith
+nothing-not-due a-window e = let z : _≡_ {A = ℕ} 0 1 = cc in omega arith
+nothing-not-due or-the-first-task e = let z : _≡_ {A = ℕ} 0 1 = cc in omega arith
 nothing-not-due an-edge e = let z : _≡_ {A = ℕ} 0 1 = cc in omega arith
 nothing-not-due or-the-end e = let z : _≡_ {A = ℕ} 0 1 = cc in omega arith
 

@@ -1,25 +1,27 @@
 -- The parts of a request go as document 01 has it: each record is the one that reading awaits, and past the last what follows the part is due.
-use Prim.Native.Nat.{ℕ, zero, suc, _+_, _≤_, _<_}
+use Prim.Native.Nat.{ℕ, suc, _+_, _*_, _≤_, _<_}
 use mathlib.Core.Path.{_≡_, refl, sym, _∙_}
 use mathlib.Core.Bool.{Bool, cond}
 use mathlib.Core.List.{List}
+use native.Mathlib.Nat.{suc-mul}
 use native.Mathlib.Omega.{arith}
-use Rattle.rules.specs.Fields.{D, Q, Z, kind-byte, byte, H-tasks, H-processors, D-deadline}
-use Rattle.rules.specs.Records.{Record, Read, read, Edges, deadline-at, price-at, minimum-at, processor-at, edge-at, end-at}
-use Rattle.rules.specs.Reading.{then, no-deadline, by, deadline-part, prices-part, task-part, tasks-part, edges-part}
-use Rattle.good.specs.Edges.{up-to}
-use Rattle.demands.specs.Demand1.Wanted.{ProcessorKind, as-P, as-Q, Wanted, processor, task, minutes, edge, kind-of}
-use Rattle.demands.specs.Demand1.Reads.{none-before, DueHere, only, deadline-or-processor, either-processor, edge-or-end, nothing, IsDue}
-use Rattle.demands.specs.Demand1.Reads.{a-deadline, or-the-first-processor, either-kind, an-edge, or-the-end, after-deadline, next-processor}
-use Rattle.demands.specs.Demand1.Reads.{first-task, first-minutes, next-minutes, next-task, first-edge}
-use Rattle.demands.specs.Demand1.Reads.{next-edge, after-end, Comes, Stops}
+use Rattle.rules.specs.Fields.{Kind, D, Q, M, E, kind-byte, size, byte, H-tasks, H-processors, D-deadline}
+use Rattle.rules.specs.Records.{Record, Read, read, stopped, deadline-at, price-at, minimum-at, processor-at, window-at, edge-at}
+use Rattle.rules.specs.Reading.{then, each, no-deadline, by, deadline-part, prices-part, how-many, run-part, windows-part, task-part, tasks-part}
+use Rattle.rules.specs.Reading.{edges-part}
+use Rattle.good.specs.Runs.{of-that-kind, then-another, edges-found, windows-found, windows-at-most}
+use Rattle.demands.specs.Demand1.Wanted.{ProcessorKind, as-P, as-Q, Wanted, processor, task, minutes, end, kind-of}
+use Rattle.demands.specs.Demand1.Reads.{DueHere, only, deadline-or-processor, either-processor, window-or-task, edge-or-end, IsDue}
+use Rattle.demands.specs.Demand1.Reads.{a-deadline, or-the-first-processor, either-kind, a-window, or-the-first-task, an-edge, or-the-end, after-deadline}
+use Rattle.demands.specs.Demand1.Reads.{next-processor, first-window, next-window, first-minutes, next-minutes, next-task, first-edge}
+use Rattle.demands.specs.Demand1.Reads.{next-edge, Comes, Stops}
 use Rattle.demands.specs.Demand1.FaultSettled.{due-unique}
 use Rattle.demands.specs.Demand1.Tells.{Tells, holds, fails, eqb-tells}
-use Rattle.demands.specs.Demand1.Goes.{Goes, on, goes-further, goes-then, goes-each}
+use Rattle.demands.specs.Demand1.Goes.{Goes, on, ends, goes-on, goes-ends, goes-further, goes-then, goes-each}
 use Rattle.demands.specs.Demand1.ReadsSettled.{comes-inside}
 use Rattle.demands.specs.Demand1.DueAt.{Past}
 use Rattle.demands.specs.Demand1.Awaits.{Awaits, awaits-only, comes-past, awaited}
-use Rattle.demands.specs.Demand1.RecordGoes.{deadline-goes, price-goes, minimum-goes, task-goes, minutes-goes, edge-goes, end-goes}
+use Rattle.demands.specs.Demand1.RecordGoes.{deadline-goes, price-goes, minimum-goes, window-goes, task-goes, minutes-goes, edge-goes}
 
 -- The record stands there that is due, or the other of two.
 awaits-standing :
@@ -67,35 +69,47 @@ module _ {s : List ℕ} {at : ℕ} where
       one v b (as-P, e) = e
       one v b (as-Q, e) = absurd (other (rw e at b))
 
-  awaits-edge : {before : Edges} → Comes s (edge-or-end before) at → (byte s at ≡ kind-byte Z → ⊥) → Awaits s at (edge before)
-  awaits-edge {before} comes other =
+  -- No window stands there, so it is the first task that is awaited; no edge, so it is the end.
+  pub awaits-first-task : {before : ℕ} → Comes s (window-or-task before) at → (byte s at ≡ kind-byte M → ⊥) → Awaits s at (task 0)
+  awaits-first-task {before} comes other =
       record {
-        due = edge-or-end before;
-        here = record { inside = comes-inside comes; is-due = an-edge; no-other = λ v. one };
+        due = window-or-task before;
+        here = record { inside = comes-inside comes; is-due = or-the-first-task; no-other = λ v. one };
         comes = comes;
       }
     where
-      one : {v : Wanted} → IsDue (edge-or-end before) v → byte s at ≡ kind-byte (kind-of v) → v ≡ edge before
-      one an-edge k = refl
-      one or-the-end k = absurd (other k)
+      one : {v : Wanted} → IsDue (window-or-task before) v → byte s at ≡ kind-byte (kind-of v) → v ≡ task 0
+      one a-window k = absurd (other k)
+      one or-the-first-task k = refl
+
+  pub awaits-end : {before : ℕ} → Comes s (edge-or-end before) at → (byte s at ≡ kind-byte E → ⊥) → Awaits s at end
+  awaits-end {before} comes other =
+      record {
+        due = edge-or-end before;
+        here = record { inside = comes-inside comes; is-due = or-the-end; no-other = λ v. one };
+        comes = comes;
+      }
+    where
+      one : {v : Wanted} → IsDue (edge-or-end before) v → byte s at ≡ kind-byte (kind-of v) → v ≡ end
+      one an-edge k = absurd (other k)
+      one or-the-end k = refl
 
 module _ (s : List ℕ) where
   -- Where the i-th task is to begin: there it is due, or past the last the edges are.
   abbrev TaskNext : ℕ → ℕ → Type 0
-  TaskNext i at = (i < H-tasks s 0 → Comes s (only (task i)) at) × (i ≡ H-tasks s 0 → Comes s (edge-or-end none-before) at)
+  TaskNext i at = (i < H-tasks s 0 → Awaits s at (task i)) × (i ≡ H-tasks s 0 → Comes s (edge-or-end 0) at)
 
   abbrev MinutesNext : ℕ → ℕ → ℕ → Type 0
   MinutesNext i j at = (j < H-processors s 0 → Comes s (only (minutes i j)) at) × (j ≡ H-processors s 0 → TaskNext (suc i) at)
 
   abbrev ProcessorNext : ℕ → ℕ → Type 0
-  ProcessorNext j at = (j < H-processors s 0 → AwaitsProcessor s at j) × (j ≡ H-processors s 0 → Comes s (only (task 0)) at)
+  ProcessorNext j at = (j < H-processors s 0 → AwaitsProcessor s at j) × (j ≡ H-processors s 0 → Comes s (window-or-task 0) at)
 
   task-part-goes :
-      (i at : ℕ) → 1 ≤ H-processors s 0 → Comes s (only (task i)) at
+      (i at : ℕ) → 1 ≤ H-processors s 0 → Awaits s at (task i)
       → Goes (λ next _. TaskNext (suc i) next) (Stops s) (task-part s (H-processors s 0) at i)
   unfolding task-part
-  task-part-goes i at some comes =
-      let a = awaits-only comes in
+  task-part-goes i at some a =
       goes-then (awaited a (task-goes s at i (a .here))) (λ next _ p.
       goes-further
       (goes-each (MinutesNext i) (H-processors s 0) (λ l. comes-past a p first-minutes, λ e. absurd (omega arith))
@@ -103,22 +117,22 @@ module _ (s : List ℕ) where
       let b = awaits-only (here .0 l) in
       goes-further (awaited b (minutes-goes s place i j (b .here))) (λ after _ q. (
         λ more. comes-past b q (next-minutes more),
-        λ e. (λ more. comes-past b q (next-task e more), λ e′. comes-past b q (first-edge e e′)),
+        λ e. (λ more. awaits-only (comes-past b q (next-task e more)), λ e′. comes-past b q (first-edge e e′)),
       ))))
       (λ after _ q. q .1 refl))
 
   pub tasks-part-goes :
-      (at : ℕ) → 1 ≤ H-processors s 0 → 1 ≤ H-tasks s 0 → Comes s (only (task 0)) at
-      → Goes (λ next _. Comes s (edge-or-end none-before) next) (Stops s) (tasks-part s (H-tasks s 0) (H-processors s 0) at)
+      (at : ℕ) → 1 ≤ H-processors s 0 → 1 ≤ H-tasks s 0 → Awaits s at (task 0)
+      → Goes (λ next _. Comes s (edge-or-end 0) next) (Stops s) (tasks-part s (H-tasks s 0) (H-processors s 0) at)
   unfolding tasks-part
-  tasks-part-goes at some some-tasks comes =
+  tasks-part-goes at some some-tasks first =
       goes-further
-      (goes-each TaskNext (H-tasks s 0) (λ l. comes, λ e. absurd (omega arith)) (λ i place l here. task-part-goes i place some (here .0 l)))
+      (goes-each TaskNext (H-tasks s 0) (λ l. first, λ e. absurd (omega arith)) (λ i place l here. task-part-goes i place some (here .0 l)))
       (λ after _ q. q .1 refl)
 
   past-processor :
       {k : ProcessorKind} {j at next : ℕ} {r : Record} (a : Awaits s at (processor k j)) → Past s at (processor k j) next r → ProcessorNext (suc j) next
-  past-processor a p = (λ more. awaits-either (comes-past a p (next-processor more)), λ e. comes-past a p (first-task e))
+  past-processor a p = (λ more. awaits-either (comes-past a p (next-processor more)), λ e. comes-past a p (first-window e))
 
   processor-goes : (j at : ℕ) → AwaitsProcessor s at j → Goes (λ next _. ProcessorNext (suc j) next) (Stops s) (processor-at s at j)
   unfolding processor-at
@@ -136,7 +150,7 @@ module _ (s : List ℕ) where
 
   pub prices-part-goes :
       (at : ℕ) → 1 ≤ H-processors s 0 → AwaitsProcessor s at 0
-      → Goes (λ next _. Comes s (only (task 0)) next) (Stops s) (prices-part s (H-processors s 0) at)
+      → Goes (λ next _. Comes s (window-or-task 0) next) (Stops s) (prices-part s (H-processors s 0) at)
   unfolding prices-part
   prices-part-goes at some first =
       goes-further
@@ -156,28 +170,52 @@ module _ (s : List ℕ) where
           goes-then (awaited a (deadline-goes s at (a .here))) (λ next _ p. on (awaits-either (comes-past a p after-deadline)))
       go (fails other) = on (awaits-first comes other)
 
-  -- So many records may come, of which the 513th at the latest is no edge that passes.
-  pub edges-part-goes :
-      (k at : ℕ) (before : Edges) → before .count ≤ 512 → 513 ≤ before .count + k → Comes s (edge-or-end before) at
-      → Goes (λ next _. Comes s nothing next) (Stops s) (edges-part s (H-tasks s 0) at before k)
-  unfolding edges-part
-  edges-part-goes zero at before few enough comes = absurd (omega arith)
-  edges-part-goes (suc k) at before few enough comes =
-      go (λ next room. edges-part-goes k next (up-to s at (before .count)) (omega arith) (omega arith)) (eqb-tells (byte s at) (kind-byte Z))
+  -- Past records of one kind: with so many before it this is due, and no more of that kind stands there.
+  abbrev PastRun : Kind → (ℕ → DueHere) → ℕ → ℕ → Type 0
+  PastRun kind due next count = Comes s (due count) next × (byte s next ≡ kind-byte kind → ⊥)
+
+  -- Each that stands there is awaited, and fewer pass than are looked for.
+  run-part-goes :
+      (kind : Kind) (due : ℕ → DueHere) (part : ℕ → ℕ → Read Record) (at most : ℕ)
+      → ((k place : ℕ) → Comes s (due k) place → byte s place ≡ kind-byte kind
+      → Goes (λ next _. (next ≡ place + size kind) × Comes s (due (suc k)) next) (Stops s) (part place k))
+      → ((k next : ℕ) → each part at k ≡ read next tt → k < most) → Comes s (due 0) at
+      → Goes (PastRun kind due) (Stops s) (run-part s kind part at most)
+  unfolding run-part then
+  run-part-goes kind due part at most one few comes =
+      go (each part at count) refl
+      (goes-each (λ k place. (place ≡ at + k * size kind) × Comes s (due k) place) count (omega arith, comes)
+      (λ k place l here.
+      goes-further (one k place (here .1) (rw (here .0) (of-that-kind s kind at most k l))) (λ next _ p. (omega (arith, p .0, here .0, suc-mul k (size kind)), p .1))))
     where
-      further : ℕ → Read ℕ
-      further place = edges-part s (H-tasks s 0) place (up-to s at (before .count)) k
+      count : ℕ
+      count = how-many s kind at most
 
       go :
-          {t : Bool}
-          → ((next : ℕ) → before .count < 512 → Comes s (edge-or-end (up-to s at (before .count))) next →
-          Goes (λ next _. Comes s nothing next) (Stops s) (further next))
-          → Tells (byte s at ≡ kind-byte Z) t
-          → Goes (λ next _. Comes s nothing next) (Stops s)
-          (cond t (then (end-at s at) (λ next _. read next (before .count))) (then (edge-at s at (H-tasks s 0) before) (λ next _. further next)))
-      go more (holds kind) =
-          let a = awaits-standing comes or-the-end kind in
-          goes-then (awaited a (end-goes s at (a .here))) (λ next _ p. on (comes-past a p after-end))
-      go more (fails other) =
-          let a = awaits-edge comes other in
-          goes-then (awaited a (edge-goes s at before (a .here))) (λ next _ p. more next (p .passes .room) (comes-past a p next-edge))
+          (x : Read (Unit {0})) → each part at count ≡ x
+          → Goes (λ next _. (next ≡ at + count * size kind) × Comes s (due count) next) (Stops s) x
+          → Goes (PastRun kind due) (Stops s) (then x (λ next _. read next count))
+      go (read next tt) e g =
+          let (there, here) = goes-on g refl in
+          on (here, λ k. then-another s kind at most (few count next e) (rw there at k))
+      go (stopped number place) e g = ends (goes-ends g refl)
+
+  pub windows-part-goes :
+      (at : ℕ) → H-processors s 0 ≤ 16 → Comes s (window-or-task 0) at
+      → Goes (PastRun M window-or-task) (Stops s) (windows-part s (H-processors s 0) at)
+  unfolding windows-part
+  windows-part-goes at narrow =
+      run-part-goes M window-or-task (window-at s (H-processors s 0)) at 65
+      (λ k place comes kind.
+      let a = awaits-standing comes a-window kind in
+      goes-further (awaited a (window-goes s place k (a .here))) (λ next _ p. (p .ends, comes-past a p next-window)))
+      (λ k next e. omega (arith, windows-at-most (windows-found s _ at e) narrow))
+
+  pub edges-part-goes : (at : ℕ) → Comes s (edge-or-end 0) at → Goes (PastRun E edge-or-end) (Stops s) (edges-part s (H-tasks s 0) at)
+  unfolding edges-part
+  edges-part-goes at =
+      run-part-goes E edge-or-end (edge-at s (H-tasks s 0)) at 513
+      (λ k place comes kind.
+      let a = awaits-standing comes an-edge kind in
+      goes-further (awaited a (edge-goes s place k (a .here))) (λ next _ p. (p .ends, comes-past a p next-edge)))
+      (λ k next e. omega (arith, edges-found s _ at e .few))

@@ -7,12 +7,11 @@ use native.Mathlib.Nat.{zero-add}
 use lib.ListN.{length}
 use lib.Dec.{ltb}
 use Rattle.rules.specs.Fields.{H, size, H-tasks, H-processors, H-budget}
-use Rattle.rules.specs.Records.{Record, read, stopped, header-at}
-use Rattle.rules.specs.Reading.{deadline-part, prices-part, tasks-part, edges-part, Request, nothing-after, read-request}
+use Rattle.rules.specs.Records.{Record, read, stopped, header-at, end-at}
+use Rattle.rules.specs.Reading.{deadline-part, prices-part, windows-part, tasks-part, edges-part, Request, nothing-after, read-request}
 use Rattle.good.specs.Records.{stopped-not-read}
 use Rattle.good.specs.Reading.{then-read}
 use Rattle.good.specs.Kinds.{header-read}
-use Rattle.demands.specs.Demand1.Reads.{none-before}
 
 pub record PartsRead (s : List ℕ) (r : Request) : Type 0 where
   pub tasks : r .tasks ≡ H-tasks s 0
@@ -20,9 +19,12 @@ pub record PartsRead (s : List ℕ) (r : Request) : Type 0 where
   pub budget : r .budget ≡ H-budget s 0
   pub header-read : (next : ℕ) × (x : Record) × (header-at s 0 ≡ read next x)
   pub deadline-read : deadline-part s (size H) ≡ read (r .prices-at) (r .deadline)
-  pub prices-read : prices-part s (r .processors) (r .prices-at) ≡ read (r .tasks-at) tt
+  pub prices-read : prices-part s (r .processors) (r .prices-at) ≡ read (r .windows-at) tt
+  pub windows-read : windows-part s (r .processors) (r .windows-at) ≡ read (r .tasks-at) (r .windows)
   pub tasks-read : tasks-part s (r .tasks) (r .processors) (r .tasks-at) ≡ read (r .edges-at) tt
-  pub edges-read : (next : ℕ) × (edges-part s (r .tasks) (r .edges-at) none-before 513 ≡ read next (r .edges))
+  pub ends-at : ℕ
+  pub edges-read : edges-part s (r .tasks) (r .edges-at) ≡ read ends-at (r .edges)
+  pub end-read : (next : ℕ) × (x : Record) × (end-at s ends-at ≡ read next x)
 
 nothing-after-same : (s : List ℕ) (at : ℕ) (r : Request) {end : ℕ} {was : Request} → nothing-after s at r ≡ read end was → r ≡ was
 unfolding nothing-after
@@ -37,11 +39,13 @@ unfolding read-request
 parts-were-read s e =
     let (after-header, was, header, e₁) = then-read _ _ e in
     let (prices-at, deadline, deadline-part-read, e₂) = then-read _ _ e₁ in
-    let (tasks-at, u, prices, e₃) = then-read _ _ e₂ in
-    let (edges-at, u, tasks, e₄) = then-read _ _ e₃ in
-    let (after-end, edges, edges-part-read, e₅) = then-read _ _ e₄ in
+    let (windows-at, u, prices, e₃) = then-read _ _ e₂ in
+    let (tasks-at, windows, windows-part-read, e₄) = then-read _ _ e₃ in
+    let (edges-at, u, tasks, e₅) = then-read _ _ e₄ in
+    let (after-edges, edges, edges-part-read, e₆) = then-read _ _ e₅ in
+    let (after-end, last, end, e₇) = then-read _ _ e₆ in
     let after-H = header-read s 0 header .ends ∙ zero-add (size H) in
-    subst (PartsRead s) (nothing-after-same s after-end _ e₅)
+    subst (PartsRead s) (nothing-after-same s after-end _ e₇)
     (record {
       tasks = refl;
       processors = refl;
@@ -49,6 +53,9 @@ parts-were-read s e =
       header-read = (after-header, was, header);
       deadline-read = subst (λ at. deadline-part s at ≡ read prices-at deadline) after-H deadline-part-read;
       prices-read = prices;
+      windows-read = windows-part-read;
       tasks-read = tasks;
-      edges-read = (after-end, edges-part-read);
+      ends-at = after-edges;
+      edges-read = edges-part-read;
+      end-read = (after-end, last, end);
     })

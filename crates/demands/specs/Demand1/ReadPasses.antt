@@ -5,14 +5,16 @@ use mathlib.Core.Bool.{Bool, true, false, cond}
 use mathlib.Core.List.{List}
 use native.Mathlib.Omega.{arith}
 use lib.Dec.{eqb}
-use Rattle.rules.specs.Fields.{H, D, P, Q, T, W, E, Z, kind-byte, byte, H-tasks}
-use Rattle.rules.specs.Records.{Record, read, header-at, deadline-at, price-at, minimum-at, processor-at, task-at, minutes-at, Edges, edge-at, end-at}
+use Rattle.rules.specs.Fields.{H, D, P, Q, M, T, W, E, Z, kind-byte, byte, H-tasks, H-processors}
+use Rattle.rules.specs.Records.{Record, read, header-at, deadline-at, price-at, minimum-at, processor-at, window-at, task-at, minutes-at, edge-at}
+use Rattle.rules.specs.Records.{end-at}
 use Rattle.rules.specs.Workflow.{processor-kind}
 use Rattle.good.specs.Records.{record-read}
-use Rattle.demands.specs.Demand1.Wanted.{ProcessorKind, as-P, as-Q, header, deadline, processor, task, minutes, edge, end, kind-of, Passes}
+use Rattle.demands.specs.Demand1.Wanted.{ProcessorKind, as-P, as-Q, header, deadline, processor, window, task, minutes, edge, end, kind-of, Passes}
 use Rattle.demands.specs.Demand1.Goes.{goes-on}
 use Rattle.demands.specs.Demand1.DueAt.{only-due}
-use Rattle.demands.specs.Demand1.RecordGoes.{header-goes, deadline-goes, price-goes, minimum-goes, task-goes, minutes-goes, edge-goes, end-goes}
+use Rattle.demands.specs.Demand1.RecordGoes.{header-goes, deadline-goes, price-goes, minimum-goes, window-goes, task-goes, minutes-goes, edge-goes}
+use Rattle.demands.specs.Demand1.RecordGoes.{end-goes}
 
 module _ (s : List ℕ) (at : ℕ) {next : ℕ} {r : Record} where
   pub header-passes : header-at s at ≡ read next r → Passes s at header
@@ -38,6 +40,10 @@ module _ (s : List ℕ) (at : ℕ) {next : ℕ} {r : Record} where
       go false p =
           (as-P, refl, goes-on (price-goes s at j (only-due (processor as-P j) (omega (arith, record-read s at P _ _ p .whole)))) p .passes)
 
+  pub window-passes : (before : ℕ) → window-at s (H-processors s 0) at before ≡ read next r → Passes s at (window before)
+  unfolding window-at
+  window-passes before e = goes-on (window-goes s at before (only-due (window before) (omega (arith, record-read s at M _ _ e .whole)))) e .passes
+
   pub task-passes : (i : ℕ) → task-at s at i ≡ read next r → Passes s at (task i)
   unfolding task-at
   task-passes i e = goes-on (task-goes s at i (only-due (task i) (omega (arith, record-read s at T _ _ e .whole)))) e .passes
@@ -46,7 +52,7 @@ module _ (s : List ℕ) (at : ℕ) {next : ℕ} {r : Record} where
   unfolding minutes-at
   minutes-passes i j e = goes-on (minutes-goes s at i j (only-due (minutes i j) (omega (arith, record-read s at W _ _ e .whole)))) e .passes
 
-  pub edge-passes : (before : Edges) → edge-at s at (H-tasks s 0) before ≡ read next r → Passes s at (edge before)
+  pub edge-passes : (before : ℕ) → edge-at s (H-tasks s 0) at before ≡ read next r → Passes s at (edge before)
   unfolding edge-at
   edge-passes before e = goes-on (edge-goes s at before (only-due (edge before) (omega (arith, record-read s at E _ _ e .whole)))) e .passes
 

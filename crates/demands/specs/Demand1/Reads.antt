@@ -3,21 +3,17 @@ use Prim.Native.Nat.{ℕ, suc, _+_, _<_}
 use mathlib.Core.Path.{_≡_}
 use mathlib.Core.List.{List}
 use lib.ListN.{length}
-use Rattle.rules.specs.Fields.{kind-byte, size, byte, H-tasks, H-processors, E-from, E-to}
-use Rattle.rules.specs.Records.{Edges}
-use Rattle.demands.specs.Demand1.Wanted.{ProcessorKind, Wanted, header, deadline, processor, task, minutes, edge, end, kind-of, Room, NumbersDue}
-use Rattle.demands.specs.Demand1.Wanted.{FieldsInRange, HasLabel, Whole, Passes}
-
--- The edges before the first.
-abbrev pub none-before : Edges
-none-before = record { count = 0; from = 0; to = 0 }
+use Rattle.rules.specs.Fields.{kind-byte, size, byte, H-tasks, H-processors}
+use Rattle.demands.specs.Demand1.Wanted.{ProcessorKind, Wanted, header, deadline, processor, window, task, minutes, edge, end, kind-of, Room}
+use Rattle.demands.specs.Demand1.Wanted.{NumbersDue, FieldsInRange, HasLabel, Whole, Passes}
 
 -- What is due at a place: one record, one of several, or nothing. "A `Q` may stand wherever a `P` is due."
 pub data DueHere : Type 0 where
   only : Wanted → DueHere
   deadline-or-processor : DueHere
   either-processor : (j : ℕ) → DueHere
-  edge-or-end : (before : Edges) → DueHere
+  window-or-task : (before : ℕ) → DueHere
+  edge-or-end : (before : ℕ) → DueHere
   nothing : DueHere
 
 pub data IsDue : DueHere → Wanted → Type 0 where
@@ -25,24 +21,26 @@ pub data IsDue : DueHere → Wanted → Type 0 where
   a-deadline : IsDue deadline-or-processor deadline
   or-the-first-processor : {k : ProcessorKind} → IsDue deadline-or-processor (processor k 0)
   either-kind : {k : ProcessorKind} {j : ℕ} → IsDue (either-processor j) (processor k j)
-  an-edge : {before : Edges} → IsDue (edge-or-end before) (edge before)
-  or-the-end : {before : Edges} → IsDue (edge-or-end before) end
+  a-window : {before : ℕ} → IsDue (window-or-task before) (window before)
+  or-the-first-task : {before : ℕ} → IsDue (window-or-task before) (task 0)
+  an-edge : {before : ℕ} → IsDue (edge-or-end before) (edge before)
+  or-the-end : {before : ℕ} → IsDue (edge-or-end before) end
 
--- "Order: `H`; at most one `D`; `P` or `Q` for 0 to m-1; then for each task 0 to n-1 its `T` followed by `W` for processors 0 to m-1; then any number
--- of `E` [..]; then `Z`; then nothing": what is due after the record at `at`. n and m are the header's.
+-- "Order: `H`; at most one `D`; `P` or `Q` for 0 to m-1; then any number of `M` within the limit, [..]; then for each task 0 to n-1 its `T` followed
+-- by `W` for processors 0 to m-1; then any number of `E` [..]; then `Z`; then nothing": what is due after the record at `at`. n and m are the header's.
 pub data Follows (s : List ℕ) (at : ℕ) : Wanted → DueHere → Type 0 where
   after-header : Follows s at header deadline-or-processor
   after-deadline : Follows s at deadline (either-processor 0)
   next-processor : {k : ProcessorKind} {j : ℕ} → suc j < H-processors s 0 → Follows s at (processor k j) (either-processor (suc j))
-  first-task : {k : ProcessorKind} {j : ℕ} → suc j ≡ H-processors s 0 → Follows s at (processor k j) (only (task 0))
+  first-window : {k : ProcessorKind} {j : ℕ} → suc j ≡ H-processors s 0 → Follows s at (processor k j) (window-or-task 0)
+  next-window : {before : ℕ} → Follows s at (window before) (window-or-task (suc before))
   first-minutes : {i : ℕ} → Follows s at (task i) (only (minutes i 0))
   next-minutes : {i j : ℕ} → suc j < H-processors s 0 → Follows s at (minutes i j) (only (minutes i (suc j)))
   next-task : {i j : ℕ} → suc j ≡ H-processors s 0 → suc i < H-tasks s 0 → Follows s at (minutes i j) (only (task (suc i)))
   first-edge :
       {i j : ℕ} → suc j ≡ H-processors s 0 → suc i ≡ H-tasks s 0
-      → Follows s at (minutes i j) (edge-or-end none-before)
-  next-edge :
-      {before : Edges} → Follows s at (edge before) (edge-or-end (record { count = before .count + 1; from = E-from s at; to = E-to s at }))
+      → Follows s at (minutes i j) (edge-or-end 0)
+  next-edge : {before : ℕ} → Follows s at (edge before) (edge-or-end (suc before))
   after-end : Follows s at end nothing
 
 -- "Records are checked from the front": reading comes to a place, past records that pass, and there this is due.
@@ -62,9 +60,10 @@ pub data Fault (s : List ℕ) (due : DueHere) (at : ℕ) : ℕ → Type 0 where
   -- "the kind byte is not one due here"
   kind-not-due :
       {w : Wanted} → IsDue due w → at < length s → ((v : Wanted) → IsDue due v → byte s at ≡ kind-byte (kind-of v) → ⊥) → Fault s due at 2
-  -- "a number, or an edge's place in the rising order, is not the one due"
+  -- "a number, or an edge's place in the rising order, is not the one due; an `M` out of rising order or one that begins before the same processor's
+  -- previous window ends"
   not-the-one-due : {w : Wanted} → IsDue due w → Whole s at w → Room w → (NumbersDue s at w → ⊥) → Fault s due at 3
-  -- "a field out of range, or a 513th edge"
+  -- "a field out of range, or a 513th edge; a processor's fifth window"
   out-of-range :
       {w : Wanted} → IsDue due w → Whole s at w → Room w → NumbersDue s at w → (FieldsInRange s at w → ⊥) → Fault s due at 4
   no-room : {w : Wanted} → IsDue due w → Whole s at w → (Room w → ⊥) → Fault s due at 4

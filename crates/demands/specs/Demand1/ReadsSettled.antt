@@ -6,17 +6,18 @@ use native.Mathlib.Omega.{arith}
 use lib.ListN.{length}
 use Rattle.rules.specs.Fields.{size}
 use Rattle.demands.specs.Demand1.Wanted.{Wanted, header, kind-of, Passes}
-use Rattle.demands.specs.Demand1.Reads.{DueHere, only, IsDue, Follows, after-header, after-deadline, next-processor, first-task, first-minutes}
-use Rattle.demands.specs.Demand1.Reads.{next-minutes, next-task, first-edge, next-edge, after-end, Comes, at-the-front, past}
+use Rattle.demands.specs.Demand1.Reads.{DueHere, only, IsDue, Follows, after-header, after-deadline, next-processor, first-window, next-window}
+use Rattle.demands.specs.Demand1.Reads.{first-minutes, next-minutes, next-task, first-edge, next-edge, after-end, Comes, at-the-front, past}
 use Rattle.demands.specs.Demand1.FaultSettled.{due-unique}
 
 follows-settled : {s : List ℕ} {at : ℕ} {w : Wanted} {next next′ : DueHere} → Follows s at w next → Follows s at w next′ → next ≡ next′
 follows-settled after-header after-header = refl
 follows-settled after-deadline after-deadline = refl
 follows-settled (next-processor l) (next-processor l′) = refl
-follows-settled (next-processor l) (first-task e) = absurd (omega arith)
-follows-settled (first-task e) (next-processor l) = absurd (omega arith)
-follows-settled (first-task e) (first-task e′) = refl
+follows-settled (next-processor l) (first-window e) = absurd (omega arith)
+follows-settled (first-window e) (next-processor l) = absurd (omega arith)
+follows-settled (first-window e) (first-window e′) = refl
+follows-settled next-window next-window = refl
 follows-settled first-minutes first-minutes = refl
 follows-settled (next-minutes l) (next-minutes l′) = refl
 follows-settled (next-minutes l) (next-task e k) = absurd (omega arith)

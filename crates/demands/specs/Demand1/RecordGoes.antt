@@ -1,21 +1,23 @@
 -- A record that is due either passes, and reading goes on past it, or has a fault: kind by kind.
-use Prim.Native.Nat.{ℕ, _+_}
+use Prim.Native.Nat.{ℕ, _+_, _*_, _-_, _≤_}
 use mathlib.Core.Path.{_≡_, refl}
+use mathlib.Core.Bool.{Bool, not, _||_}
+use mathlib.Core.Logic.{_⊎_, inl, inr}
 use mathlib.Core.List.{List}
 use native.Mathlib.Omega.{arith}
-use lib.Dec.{leb}
+use lib.Dec.{leb, eqb}
 use Rattle.label.specs.Label.{Label}
 use Rattle.label.specs.Length.{label-length}
 use Rattle.label.specs.Laws.{label-length-is-length, told-by-length}
-use Rattle.rules.specs.Fields.{size, H-tasks, H-processors, H-budget, D-deadline, P-processor, P-price, Q-minimum, T-task, T-label}
-use Rattle.rules.specs.Fields.{W-task, W-processor, W-minutes, E-from, E-to, E-transfer}
-use Rattle.rules.specs.Records.{Record, header-at, deadline-at, price-checks, price-at, minimum-at, task-at, minutes-at, Edges, rising, edge-ranges}
-use Rattle.rules.specs.Records.{edge-at, end-at}
-use Rattle.good.specs.Good.{Between, GoodEdge}
-use Rattle.demands.specs.Demand1.Wanted.{ProcessorKind, as-P, as-Q, Wanted, header, deadline, processor, task, minutes, edge, end, kind-of}
-use Rattle.demands.specs.Demand1.Wanted.{NumbersDue, FieldsInRange, Whole, Passes}
+use Rattle.rules.specs.Fields.{Kind, M, E, size, H-tasks, H-processors, H-budget, D-deadline, P-processor, P-price, Q-minimum, M-processor, M-begin}
+use Rattle.rules.specs.Fields.{M-end, T-task, T-label, W-task, W-processor, W-minutes, E-from, E-to, E-transfer}
+use Rattle.rules.specs.Records.{Record, header-at, deadline-at, price-checks, price-at, minimum-at, follows, above, apart, fifth}
+use Rattle.rules.specs.Records.{window-ranges, window-at, task-at, minutes-at, edge-ranges, edge-at, end-at}
+use Rattle.good.specs.Good.{Between, GoodEdge, GoodWindow, Apart}
+use Rattle.demands.specs.Demand1.Wanted.{ProcessorKind, as-P, as-Q, Wanted, header, deadline, processor, window, task, minutes, edge, end}
+use Rattle.demands.specs.Demand1.Wanted.{kind-of, After, IsAbove, IsFifth, NumbersDue, FieldsInRange, Whole, Passes}
 use Rattle.demands.specs.Demand1.Reads.{DueHere, not-the-one-due, out-of-range, no-room, bad-label}
-use Rattle.demands.specs.Demand1.Tells.{Tells, told, ltb-tells, eqb-tells, not-tells, and-tells, or-tells, within-tells}
+use Rattle.demands.specs.Demand1.Tells.{Tells, holds, fails, told, leb-tells, ltb-tells, eqb-tells, not-tells, and-tells, or-tells, within-tells}
 use Rattle.demands.specs.Demand1.Goes.{Goes, goes-check, goes-checked}
 use Rattle.demands.specs.Demand1.DueAt.{DueAt, Past, Faulty, stop, Own, opened-goes}
 
@@ -111,21 +113,69 @@ module _ (s : List ℕ) (at : ℕ) where
       (λ not. other (λ numbers. not (numbers .1))))
       (λ not. other (λ numbers. not (numbers .0))))
 
-  rising-tells : (before : Edges) → Tells (NumbersDue s at (edge before)) (rising before (E-from s at) (E-to s at))
-  unfolding rising
-  rising-tells before =
-      or-tells (eqb-tells (before .count) 0)
-      (or-tells (ltb-tells (before .from) (E-from s at)) (and-tells (eqb-tells (before .from) (E-from s at)) (ltb-tells (before .to) (E-to s at))))
+  after-tells : (kind : Kind) (so : ℕ → ℕ → Type 0) (test : ℕ → ℕ → Bool) (before : ℕ) → ((last : ℕ) → Tells (so last at) (test last at))
+      → Tells (After kind so at before) (follows kind test at before)
+  unfolding follows
+  after-tells kind so test before tells = or-tells (eqb-tells before 0) (tells (at - size kind))
+
+  above-tells : (first second : ℕ → ℕ) (last : ℕ) → Tells (IsAbove first second last at) (above first second last at)
+  unfolding above
+  above-tells first second last =
+      or-tells (ltb-tells (first last) (first at)) (and-tells (eqb-tells (first last) (first at)) (ltb-tells (second last) (second at)))
+
+  apart-tells : (last : ℕ) → Tells (Apart s last at) (apart s last at)
+  unfolding apart
+  apart-tells last = go (or-tells (not-tells (eqb-tells (M-processor s last) (M-processor s at))) (leb-tells (M-end s last) (M-begin s at)))
+    where
+      go : {t : Bool} → Tells ((M-processor s last ≡ M-processor s at → ⊥) ⊎ (M-end s last ≤ M-begin s at)) t → Tells (Apart s last at) t
+      go (holds (inl other)) = holds (λ same. absurd (other same))
+      go (holds (inr ended)) = holds (λ same. ended)
+      go (fails n) = fails (λ apart. n (inl (λ same. n (inr (apart same)))))
+
+  fifth-tells : (before : ℕ) → Tells (IsFifth s at before → ⊥) (not (fifth s at before))
+  unfolding fifth
+  fifth-tells before = not-tells (and-tells (leb-tells 4 before) (eqb-tells (M-processor s (at - 4 * size M)) (M-processor s at)))
+
+  pub window-goes :
+      {due : DueHere} (before : ℕ) → DueAt s due at (window before)
+      → Goes (Past s at (window before)) (Faulty s due at) (window-at s (H-processors s 0) at before)
+  unfolding window-at window-ranges
+  window-goes {due} before a =
+      opened-goes s at (window before) a _ _ (λ whole.
+      let misplaced : (NumbersDue s at (window before) → ⊥) → Faulty s due at 3 at = λ not.
+      stop s at (window before) a (not-the-one-due (a .is-due) whole tt not) in
+      goes-check (after-tells M (IsAbove (M-processor s) (M-begin s)) _ before (above-tells (M-processor s) (M-begin s))) 2
+      (λ rises.
+      goes-check (after-tells M (Apart s) _ before apart-tells) 2
+      (λ apart.
+      let out : (FieldsInRange s at (window before) → ⊥) → Faulty s due at 4 at = λ not.
+      stop s at (window before) a (out-of-range (a .is-due) whole tt (rises, apart) not) in
+      goes-check (ltb-tells (M-processor s at) (H-processors s 0)) 3
+      (λ processor.
+      goes-check (ltb-tells (M-begin s at) (M-end s at)) 3
+      (λ minutes.
+      goes-check (leb-tells (M-end s at) 20_000) 3
+      (λ end.
+      goes-check (fifth-tells before) 3
+      (λ few.
+      let good : GoodWindow s (H-processors s 0) at = record { processor-below = processor; has-minutes = minutes; end-in = end } in
+      goes-checked (past (record { whole = whole; room = tt; numbers = (rises, apart); in-range = (good, few); label = tt })))
+      (λ not. out (λ fields. not (fields .1))))
+      (λ not. out (λ fields. not (fields .0 .end-in))))
+      (λ not. out (λ fields. not (fields .0 .has-minutes))))
+      (λ not. out (λ fields. not (fields .0 .processor-below))))
+      (λ not. misplaced (λ numbers. not (numbers .1))))
+      (λ not. misplaced (λ numbers. not (numbers .0))))
 
   pub edge-goes :
-      {due : DueHere} (before : Edges) → DueAt s due at (edge before)
-      → Goes (Past s at (edge before)) (Faulty s due at) (edge-at s at (H-tasks s 0) before)
+      {due : DueHere} (before : ℕ) → DueAt s due at (edge before)
+      → Goes (Past s at (edge before)) (Faulty s due at) (edge-at s (H-tasks s 0) at before)
   unfolding edge-at edge-ranges
   edge-goes {due} before a =
       opened-goes s at (edge before) a _ _ (λ whole.
-      goes-check (ltb-tells (before .count) 512) 3
+      goes-check (ltb-tells before 512) 3
       (λ room.
-      goes-check (rising-tells before) 2
+      goes-check (after-tells E (IsAbove (E-from s) (E-to s)) _ before (above-tells (E-from s) (E-to s))) 2
       (λ rises.
       let out : (GoodEdge s (H-tasks s 0) at → ⊥) → Faulty s due at 4 at = λ not.
       stop s at (edge before) a (out-of-range (a .is-due) whole room rises not) in

@@ -5,20 +5,20 @@ use mathlib.Core.Bool.{Bool, true, false, cond}
 use mathlib.Core.List.{List}
 use native.Mathlib.Omega.{arith}
 use lib.Dec.{eqb}
-use Rattle.rules.specs.Fields.{H, D, T, W, E, size, kind-byte, byte, D-deadline}
-use Rattle.rules.specs.Records.{read, deadline-at}
-use Rattle.rules.specs.Reading.{then, no-deadline, by, deadline-part, prices-part, task-part, tasks-part, edges-part}
+use Rattle.rules.specs.Fields.{H, D, M, T, W, E, size, kind-byte, byte, H-tasks, H-processors, D-deadline}
+use Rattle.rules.specs.Records.{read, deadline-at, window-at, edge-at}
+use Rattle.rules.specs.Reading.{then, no-deadline, by, deadline-part, prices-part, windows-part, task-part, tasks-part, edges-part}
 use Rattle.rules.specs.Reading.{Request, read-request}
-use Rattle.rules.specs.Workflow.{processor-place, task-place, minutes-place, edge-place, read-in}
+use Rattle.rules.specs.Workflow.{processor-place, window-place, task-place, minutes-place, edge-place, read-in}
 use Rattle.good.specs.Reading.{then-read, by-stride, each-part}
 use Rattle.good.specs.Kinds.{task-read}
 use Rattle.good.specs.Processors.{processors-walk}
 use Rattle.good.specs.Parts.{minutes-steps, task-steps}
-use Rattle.demands.specs.Demand1.Wanted.{ProcessorKind, header, deadline, processor, task, minutes, edge, end, kind-of, Passes}
-use Rattle.demands.specs.Demand1.Reads.{none-before}
+use Rattle.good.specs.Runs.{run-each, window-steps, edge-steps, edges-read}
+use Rattle.demands.specs.Demand1.Wanted.{ProcessorKind, header, deadline, processor, window, task, minutes, edge, end, kind-of, Passes}
 use Rattle.demands.specs.Demand1.PartsRead.{PartsRead, parts-were-read}
-use Rattle.demands.specs.Demand1.ReadPasses.{header-passes, deadline-passes, processor-passes, task-passes, minutes-passes}
-use Rattle.demands.specs.Demand1.EdgesPass.{edges-before, EdgesPass, edges-that-were-read-pass}
+use Rattle.demands.specs.Demand1.ReadPasses.{header-passes, deadline-passes, processor-passes, window-passes, task-passes, minutes-passes}
+use Rattle.demands.specs.Demand1.ReadPasses.{edge-passes, end-passes}
 
 -- The record of processor j, in the kind that it was read in.
 abbrev pub ProcessorPasses : List ℕ → Request → ℕ → Type 0
@@ -28,9 +28,10 @@ pub record RecordsPass (s : List ℕ) (r : Request) : Type 0 where
   pub header : Passes s 0 header
   pub deadline : (d : ℕ) → r .deadline ≡ by d → Passes s (size H) deadline
   pub processors : (j : ℕ) → j < r .processors → ProcessorPasses s r j
+  pub windows : (e : ℕ) → e < r .windows → Passes s (window-place r e) (window e)
   pub tasks : (i : ℕ) → i < r .tasks → Passes s (task-place r i) (task i)
   pub minutes : (i j : ℕ) → i < r .tasks → j < r .processors → Passes s (minutes-place r i j) (minutes i j)
-  pub edges : (e : ℕ) → e < r .edges → Passes s (edge-place r e) (edge (edges-before s (r .edges-at) none-before e))
+  pub edges : (e : ℕ) → e < r .edges → Passes s (edge-place r e) (edge e)
   pub end : Passes s (edge-place r (r .edges)) end
 
 module _ (s : List ℕ) (r : Request) (parts : PartsRead s r) where
@@ -75,25 +76,38 @@ module _ (s : List ℕ) (r : Request) (parts : PartsRead s r) where
       go true p = let (place, was, here, done) = then-read (deadline-at s (size H)) _ p in deadline-passes s (size H) here
       go false p = let z : _≡_ {A = ℕ} 0 1 = cc in absurd (omega arith)
 
-  edges-stand : EdgesPass s (r .edges-at) none-before (r .edges)
-  edges-stand =
-      let (next, e) = parts .edges-read in
-      edges-that-were-read-pass s 513 (r .edges-at) none-before
-      (subst (λ n. edges-part s n (r .edges-at) none-before 513 ≡ read next (r .edges)) (parts .tasks) e)
+  window-stands : (e : ℕ) → e < r .windows → Passes s (window-place r e) (window e)
+  unfolding windows-part window-place
+  window-stands e l =
+      let walk = by-stride (size M) (window-steps s (r .processors)) (r .windows-at) in
+      let (after, was, here) = each-part walk (r .windows) (run-each s M (window-at s (r .processors)) (r .windows-at) 65 (parts .windows-read)) e l in
+      window-passes s _ e (subst (λ m. window-at s m (r .windows-at + e * size M) e ≡ read after was) (parts .processors) here)
+
+  edge-stands : (e : ℕ) → e < r .edges → Passes s (edge-place r e) (edge e)
+  unfolding edges-part edge-place
+  edge-stands e l =
+      let walk = by-stride (size E) (edge-steps s (r .tasks)) (r .edges-at) in
+      let (after, was, here) = each-part walk (r .edges) (run-each s E (edge-at s (r .tasks)) (r .edges-at) 513 (parts .edges-read)) e l in
+      edge-passes s _ e (subst (λ n. edge-at s n (r .edges-at + e * size E) e ≡ read after was) (parts .tasks) here)
+
+  end-stands : Passes s (edge-place r (r .edges)) end
+  unfolding edge-place
+  end-stands =
+      let (next, was, here) = parts .end-read in
+      subst (λ at. Passes s at end) (edges-read s (r .tasks) (r .edges-at) (parts .edges-read) .ends) (end-passes s (parts .ends-at) here)
 
 -- What is read passes, record by record.
 pub read-records-pass : (s : List ℕ) {end : ℕ} {r : Request} → read-request s ≡ read end r → RecordsPass s r
-unfolding edge-place
 read-records-pass s {r = r} e =
     let parts = parts-were-read s e in
-    let edges = edges-stand s r parts in
     let (next, was, header-there) = parts .header-read in
     record {
       header = header-passes s 0 header-there;
       deadline = deadline-stands-there s r parts;
       processors = processor-stands s r parts;
+      windows = window-stands s r parts;
       tasks = task-stands s r parts;
       minutes = minutes-stand s r parts;
-      edges = λ e l. edges .edges-pass e (omega (arith, edges .counted));
-      end = subst (λ k. Passes s (r .edges-at + k * size E) end) (omega (arith, edges .counted)) (edges .end-passes);
+      edges = edge-stands s r parts;
+      end = end-stands s r parts;
     }

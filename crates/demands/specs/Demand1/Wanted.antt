@@ -1,27 +1,27 @@
--- What it takes for a record to pass, said of the bytes: its kind, its whole body, room for an edge, its numbers, its ranges and its label.
-use Prim.Native.Nat.{ℕ, _+_, _≤_, _<_}
+-- What it takes for a record to pass, said of the bytes: its kind, its whole body, room for an edge, its numbers or its place in the order, its ranges and its label.
+use Prim.Native.Nat.{ℕ, _+_, _*_, _-_, _≤_, _<_}
 use mathlib.Core.Path.{_≡_}
 use mathlib.Core.List.{List}
 use mathlib.Core.Logic.{_⊎_}
 use lib.ListN.{length}
 use Rattle.label.specs.Label.{Label}
-use Rattle.rules.specs.Fields.{Kind, H, D, P, Q, T, W, E, Z, kind-byte, size, byte, H-tasks, H-processors, H-budget, D-deadline, P-processor, P-price}
-use Rattle.rules.specs.Fields.{Q-minimum, T-task, T-label, W-task, W-processor, W-minutes, E-from, E-to}
-use Rattle.rules.specs.Records.{Edges}
-use Rattle.good.specs.Good.{Between, GoodEdge}
+use Rattle.rules.specs.Fields.{Kind, H, D, P, Q, M, T, W, E, Z, kind-byte, size, byte, H-tasks, H-processors, H-budget, D-deadline, P-processor}
+use Rattle.rules.specs.Fields.{P-price, Q-minimum, M-processor, M-begin, T-task, T-label, W-task, W-processor, W-minutes, E-from, E-to}
+use Rattle.good.specs.Good.{Between, GoodEdge, GoodWindow, Apart}
 
 -- The two kinds of processor records.
 pub data ProcessorKind : Type 0 where
   as-P as-Q : ProcessorKind
 
--- A record as it may be due: of one kind, with its number, its two numbers, or the edges before it.
+-- A record as it may be due: of one kind, with its number, its two numbers, or how many of its kind stand right before it.
 pub data Wanted : Type 0 where
   header : Wanted
   deadline : Wanted
   processor : (k : ProcessorKind) (j : ℕ) → Wanted
   task : (i : ℕ) → Wanted
   minutes : (i j : ℕ) → Wanted
-  edge : (before : Edges) → Wanted
+  window : (before : ℕ) → Wanted
+  edge : (before : ℕ) → Wanted
   end : Wanted
 
 abbrev pub kind-of : Wanted → Kind
@@ -31,38 +31,54 @@ kind-of (processor as-P j) = P
 kind-of (processor as-Q j) = Q
 kind-of (task i) = T
 kind-of (minutes i j) = W
+kind-of (window before) = M
 kind-of (edge before) = E
 kind-of end = Z
 
 -- "at most 512 edges": before an edge there are fewer.
 abbrev pub Room : Wanted → Type 0
-Room (edge before) = before .count < 512
+Room (edge before) = before < 512
 Room header = Unit {0}
 Room deadline = Unit {0}
 Room (processor k j) = Unit {0}
+Room (window before) = Unit {0}
 Room (task i) = Unit {0}
 Room (minutes i j) = Unit {0}
 Room end = Unit {0}
 
+-- The record at `at` is the first of its kind, or stands so to the one before it, which ends there.
+abbrev pub After : Kind → (ℕ → ℕ → Type 0) → (at before : ℕ) → Type 0
+After kind so at before = (before ≡ 0) ⊎ so (at - size kind) at
+
+-- It is above that one: by the first number, or by the second where the first are equal.
+abbrev pub IsAbove : (first second : ℕ → ℕ) → (before at : ℕ) → Type 0
+IsAbove first second before at = (first before < first at) ⊎ ((first before ≡ first at) × (second before < second at))
+
 -- "a number, or an edge's place in the rising order": that they are the ones due, in the record at `at`. Of an edge: "each pair (from, to) greater
--- than the one before, by from first and then to", and the first has none before it.
+-- than the one before, by from first and then to". Of a window: "rising by processor, then begin, and none that begins before the same processor's
+-- previous window ends".
 abbrev pub NumbersDue : List ℕ → ℕ → Wanted → Type 0
 NumbersDue s at (processor k j) = P-processor s at ≡ j
 NumbersDue s at (task i) = T-task s at ≡ i
 NumbersDue s at (minutes i j) = (W-task s at ≡ i) × (W-processor s at ≡ j)
-NumbersDue s at (edge before) =
-    (before .count ≡ 0) ⊎ ((before .from < E-from s at) ⊎ ((before .from ≡ E-from s at) × (before .to < E-to s at)))
+NumbersDue s at (edge before) = After E (IsAbove (E-from s) (E-to s)) at before
+NumbersDue s at (window before) = After M (IsAbove (M-processor s) (M-begin s)) at before × After M (Apart s) at before
 NumbersDue s at header = Unit {0}
 NumbersDue s at deadline = Unit {0}
 NumbersDue s at end = Unit {0}
 
--- "Ranges: n 1..64, m 1..16, budget 0..20,000,000, deadline 1..200,000, price 0..100, minimum 0..10,000, minutes 1..2,000, transfer 0..1,000, edge
--- ends below n and unequal".
+-- "a processor's fifth window": windows rise by processor, so those four before it are all of its processor where the first of them is.
+abbrev pub IsFifth : List ℕ → (at before : ℕ) → Type 0
+IsFifth s at before = (4 ≤ before) × (M-processor s (at - 4 * size M) ≡ M-processor s at)
+
+-- "Ranges: n 1..64, m 1..16, budget 0..20,000,000, deadline 1..200,000, price 0..100, minimum 0..10,000, a window's processor below m, its begin below its
+-- end, its end at most 20,000, at most four windows of a processor, minutes 1..2,000, transfer 0..1,000, edge ends below n and unequal".
 abbrev pub FieldsInRange : List ℕ → ℕ → Wanted → Type 0
 FieldsInRange s at header = Between 1 (H-tasks s at) 64 × Between 1 (H-processors s at) 16 × Between 0 (H-budget s at) 20_000_000
 FieldsInRange s at deadline = Between 1 (D-deadline s at) 200_000
 FieldsInRange s at (processor as-P j) = Between 0 (P-price s at) 100
 FieldsInRange s at (processor as-Q j) = Between 0 (P-price s at) 100 × Between 0 (Q-minimum s at) 10_000
+FieldsInRange s at (window before) = GoodWindow s (H-processors s 0) at × (IsFifth s at before → ⊥)
 FieldsInRange s at (minutes i j) = Between 1 (W-minutes s at) 2_000
 FieldsInRange s at (edge before) = GoodEdge s (H-tasks s 0) at
 FieldsInRange s at (task i) = Unit {0}
@@ -74,6 +90,7 @@ HasLabel s at (task i) = (len : ℕ) × Label s (T-label at) len
 HasLabel s at header = Unit {0}
 HasLabel s at deadline = Unit {0}
 HasLabel s at (processor k j) = Unit {0}
+HasLabel s at (window before) = Unit {0}
 HasLabel s at (minutes i j) = Unit {0}
 HasLabel s at (edge before) = Unit {0}
 HasLabel s at end = Unit {0}

@@ -8,7 +8,7 @@ use lib.Dec.{eqb}
 use borrow.Author.Tests.{eq-eqb}
 use Rattle.rules.specs.Workflow.{Workflow}
 use Rattle.rules.specs.Cycle.{Leads}
-use Rattle.rules.specs.Start.{arrival, ready}
+use Rattle.rules.specs.Start.{arrival, arrived, ready}
 use Rattle.rules.specs.Rows.{Placed, row-of, is-placed, busy}
 use Rattle.rules.specs.Method.{Method}
 use Rattle.rules.specs.Placing.{ready-for, start-of, row-on}
@@ -24,11 +24,11 @@ abbrev pub arrives : Workflow → List Placed → ℕ → ℕ → ℕ
 arrives W rows j e = arrival W (λ p. row-of rows p .processor) (λ p. row-of rows p .finish) j e
 
 pub start-not-before-arrival : (W : Workflow) (rows : List Placed) (i j e : ℕ) → e < W .edges → W .to e ≡ i → arrives W rows j e ≤ start-of W rows i j
-unfolding start-of ready-for ready
+unfolding start-of ready-for ready arrived
 start-not-before-arrival W rows i j e l to-i =
     let inputs : ℕ → ℕ = λ x. cond (eqb (W .to x) i) (arrives W rows j x) 0 in
     let at-ready = rw (eq-eqb (W .to e) i to-i) at (at-most-largest (W .edges) inputs e l) in
-    omega (arith, at-ready, start-not-before-ready (busy rows j) (ready-for W rows i j) (W .minutes i j))
+    omega (arith, at-ready, start-not-before-ready (busy W rows j) (ready-for W rows i j) (W .minutes i j))
 
 arrives-still :
     (W : Workflow) (p : Placed) (before : List Placed) → is-placed before (p .task) ≡ false → (j e : ℕ) → is-placed before (W .from e) ≡ true

@@ -1,22 +1,21 @@
--- The rows of a plan are true, and no processor runs two tasks at once: a new row is made so, and is clear of all that its processor is
--- busy with.
+-- The rows of a plan are true, no processor runs two tasks at once, and none runs a task while it is down: a new row is made so, and is clear of all that its
+-- processor is busy with.
 use Prim.Native.Nat.{ℕ, _+_, _≤_, _<_}
 use mathlib.Core.Path.{_≡_, refl, sym}
 use mathlib.Core.Bool.{Bool, true, false, cond}
-use mathlib.Core.List.{List, _∷_, List·Memᴰ, List·Memᴰ·head, List·Memᴰ·tail}
+use mathlib.Core.List.{List, [], _∷_, List·Memᴰ, List·Memᴰ·head, List·Memᴰ·tail}
 use mathlib.Core.Logic.{_⊎_, ⊎-swap, _≢_}
 use native.Mathlib.Omega.{arith}
 use lib.Dec.{eqb}
 use borrow.Author.Tests.{eq-eqb}
-use Rattle.rules.specs.Workflow.{Workflow}
+use Rattle.rules.specs.Workflow.{Interval, Workflow, busy-with}
 use Rattle.rules.specs.Ranks.{cost}
-use Rattle.rules.specs.Workflow.{Interval}
-use Rattle.rules.specs.Rows.{Row, Placed, row-of, is-placed, busy}
+use Rattle.rules.specs.Start.{Overlap}
+use Rattle.rules.specs.Rows.{Row, Placed, row-of, is-placed, taken-up, busy}
 use Rattle.rules.specs.Method.{Method}
 use Rattle.rules.specs.Placing.{ready-for, start-of, finish-of, row-on}
 use Rattle.laws.specs.Free.{one-ends-before}
 use Rattle.laws.specs.StartLaws.{start-is}
-use Rattle.laws.specs.LatestFinish.{taken-up}
 use Rattle.demands.specs.Ground.GoodWorkflow.{GoodWorkflow}
 use Rattle.demands.specs.Demand2.Lookup.{none-placed, each-row}
 use Rattle.demands.specs.Demand2.Built.{placed-on, Built, at-first, one-more}
@@ -32,17 +31,27 @@ pub record RowTrue (W : Workflow) (i : ℕ) (r : Row) : Type 0 where
 abbrev pub Apart : Row → Row → Type 0
 Apart r r′ = r .processor ≡ r′ .processor → (r .finish ≤ r′ .start) ⊎ (r′ .finish ≤ r .start)
 
-new-busy : (p : Placed) (before : List Placed) → List·Memᴰ (taken-up (p .row)) (busy (p ∷ before) (p .row .processor))
-unfolding busy
-new-busy p before = rw (eq-eqb (p .row .processor) (p .row .processor) refl) (List·Memᴰ·head refl)
+-- "no task runs while its machine is down": a row has no minute in common with what its processor is busy with at first, its windows.
+abbrev pub WhileUp : Workflow → Row → Type 0
+WhileUp W r = (v : Interval) → List·Memᴰ v (W .busy-at-first (r .processor)) → Overlap (taken-up r) v → ⊥
 
-old-busy : (p : Placed) (before : List Placed) (j : ℕ) {v : Interval} → List·Memᴰ v (busy before j) → List·Memᴰ v (busy (p ∷ before) j)
-unfolding busy
-old-busy p before j {v} m = go (eqb (p .row .processor) j)
+new-busy : (W : Workflow) (p : Placed) (before : List Placed) → List·Memᴰ (taken-up (p .row)) (busy W (p ∷ before) (p .row .processor))
+unfolding busy busy-with
+new-busy W p before = rw (eq-eqb (p .row .processor) (p .row .processor) refl) (List·Memᴰ·head refl)
+
+old-busy :
+    (W : Workflow) (p : Placed) (before : List Placed) (j : ℕ) {v : Interval} → List·Memᴰ v (busy W before j) → List·Memᴰ v (busy W (p ∷ before) j)
+unfolding busy busy-with
+old-busy W p before j {v} m = go (eqb (p .row .processor) j)
   where
-    go : (t : Bool) → List·Memᴰ v (cond t (taken-up (p .row) ∷ busy before j) (busy before j))
+    go : (t : Bool) → List·Memᴰ v (cond t (taken-up (p .row) ∷ busy W before j) (busy W before j))
     go true = List·Memᴰ·tail m
     go false = m
+
+-- What it is busy with at first it stays busy with.
+first-busy : (W : Workflow) (rows : List Placed) (j : ℕ) {v : Interval} → List·Memᴰ v (W .busy-at-first j) → List·Memᴰ v (busy W rows j)
+first-busy W [] j m = unfold busy in m
+first-busy W (p ∷ rows) j m = old-busy W p rows j (first-busy W rows j m)
 
 module _ (M : Method) (W : Workflow) where
   pub rows-true : {rows : List Placed} → Built M W rows → (i : ℕ) → is-placed rows i ≡ true → RowTrue W i (row-of rows i)
@@ -55,12 +64,20 @@ module _ (M : Method) (W : Workflow) where
   -- A processor is busy with each row that is on it.
   rows-busy :
       {rows : List Placed} → Built M W rows → (i : ℕ) → is-placed rows i ≡ true
-      → List·Memᴰ (taken-up (row-of rows i)) (busy rows (row-of rows i .processor))
+      → List·Memᴰ (taken-up (row-of rows i)) (busy W rows (row-of rows i .processor))
   rows-busy at-first = λ i h. absurd (none-placed i h)
   rows-busy (one-more {before = before} {i = n} {j = j} built next) =
       let p = placed-on W before n j in
-      each-row p before (λ i r. List·Memᴰ (taken-up r) (busy (p ∷ before) (r .processor))) (new-busy p before)
-      (λ i h. old-busy p before (row-of before i .processor) (rows-busy built i h))
+      each-row p before (λ i r. List·Memᴰ (taken-up r) (busy W (p ∷ before) (r .processor))) (new-busy W p before)
+      (λ i h. old-busy W p before (row-of before i .processor) (rows-busy built i h))
+
+  pub rows-while-up : {rows : List Placed} → Built M W rows → (i : ℕ) → is-placed rows i ≡ true → WhileUp W (row-of rows i)
+  unfolding row-on start-of finish-of
+  rows-while-up at-first = λ i h. absurd (none-placed i h)
+  rows-while-up (one-more {before = before} {i = n} {j = j} built next) =
+      each-row (placed-on W before n j) before (λ i r. WhileUp W r)
+      (λ v m. start-is (busy W before j) (ready-for W before n j) (W .minutes n j) .overlaps-nothing v (first-busy W before j m))
+      (rows-while-up built)
 
   module _ (good : GoodWorkflow W) where
     -- Each row has minutes.
@@ -74,7 +91,7 @@ module _ (M : Method) (W : Workflow) where
         → (row-of before k .finish ≤ start-of W before n j) ⊎ (finish-of W before n j ≤ row-of before k .start)
     unfolding start-of finish-of
     new-apart {before} built n j k task processor placed same =
-        let start = start-is (busy before j) (ready-for W before n j) (W .minutes n j) in
+        let start = start-is (busy W before j) (ready-for W before n j) (W .minutes n j) in
         one-ends-before _ (taken-up (row-of before k)) (omega (arith, good .minutes n j task processor)) (row-has-minutes (rows-true built k placed))
         (start .overlaps-nothing (taken-up (row-of before k)) (rw same (rows-busy built k placed)))
 

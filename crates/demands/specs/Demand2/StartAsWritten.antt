@@ -1,5 +1,5 @@
 -- The start of each task of a plan, in the words of document 02: the least minute, not before its data is ready, at which its minutes overlap no row that
--- was already placed on its processor.
+-- was already placed on its processor, and no window of it.
 use mathlib.Core.Path.{ap, subst⁻¹}
 use mathlib.Core.List.{List, [], _∷_}
 use Rattle.rules.specs.Workflow.{Workflow}
@@ -12,12 +12,12 @@ use Rattle.demands.specs.Demand2.Steps.{EachStep, AsTheMethod}
 abbrev pub StartAsWritten : (W : Workflow) (before : List Placed) (p : Placed) → Type 0
 StartAsWritten W before p =
     let j = p .row .processor in
-    Starts (busy before j) (ready-for W before (p .task) j) (W .minutes (p .task) j) (p .row .start)
+    Starts (busy W before j) (ready-for W before (p .task) j) (W .minutes (p .task) j) (p .row .start)
 
 start-as-written : (W : Workflow) (before : List Placed) (p : Placed) → AsTheMethod W before p → StartAsWritten W before p
 unfolding row-on start-of
 start-as-written W before p step =
-    subst⁻¹ (Starts (busy before (p .row .processor)) (ready-for W before (p .task) (p .row .processor)) (W .minutes (p .task) (p .row .processor)))
+    subst⁻¹ (Starts (busy W before (p .row .processor)) (ready-for W before (p .task) (p .row .processor)) (W .minutes (p .task) (p .row .processor)))
     (ap (λ r. r .start) (step .row)) (start-is _ _ _)
 
 pub starts-as-written : (W : Workflow) (rows : List Placed) → EachStep (AsTheMethod W) rows → EachStep (StartAsWritten W) rows

@@ -26,7 +26,7 @@ use Rattle.demands.specs.Ground.GoodWorkflow.{GoodWorkflow, good-workflo
 use Rattle.demands.specs.Ground.GoodRequest.{outcome-of-good}
 use Rattle.demands.specs.Demand2.Built.{built-count}
 use Rattle.demands.specs.Demand2.Steps.{EachStep, AsTheMethod, steps-as-the-method}
-use Rattle.demands.specs.Demand2.Sound.{RowTrue, Apart, rows-true, rows-apart}
+use Rattle.demands.specs.Demand2.Sound.{RowTrue, Apart, WhileUp, rows-true, rows-apart, rows-while-up}
 use Rattle.demands.specs.Demand2.Arrived.{arrives, rows-arrived}
 use Rattle.demands.specs.Demand2.Affordable.{HBCS-places-all}
 use Rattle.demands.specs.Demand2.Totals.{spent-is-sum, length-is-largest}
@@ -39,9 +39,10 @@ pub record MethodsPlan (W : Workflow) (rows : List Placed) : Type 0 where
   pub all-placed : (i : ℕ) → i < W .tasks → is-placed rows i ≡ true
   pub none-twice : length rows ≡ W .tasks
   pub steps : EachStep (AsTheMethod W) rows
-  -- Rows are true, no processor runs two tasks at once, and no task starts before its inputs arrived.
+  -- Rows are true, no processor runs two tasks at once or one while it is down, and no task starts before its inputs arrived.
   pub rows-true : (i : ℕ) → i < W .tasks → RowTrue W i (row-of rows i)
   pub apart : (i k : ℕ) → i < W .tasks → k < W .tasks → i ≢ k → Apart (row-of rows i) (row-of rows k)
+  pub while-up : (i : ℕ) → i < W .tasks → WhileUp W (row-of rows i)
   pub arrived : (e : ℕ) → e < W .edges → arrives W rows (row-of rows (W .to e) .processor) e ≤ row-of rows (W .to e) .start
   -- The summary: length, cost, budget left.
   pub length-largest : length-of rows ≡ largest (W .tasks) (λ i. row-of rows i .finish)
@@ -106,6 +107,7 @@ plan-is-the-methods W good lent =
           steps = steps-as-the-method W (good .processors) within built;
           rows-true = λ i l. rows-true HBCS W built i (all i l);
           apart = λ i k l m. rows-apart HBCS W good built i k (all i l) (all k m);
+          while-up = λ i l. rows-while-up HBCS W built i (all i l);
           arrived = λ e l. rows-arrived HBCS W good acyclic built (W .to e) (all (W .to e) (good .to e l)) e l refl .1;
           length-largest = length-is-largest HBCS W built;
           cost-sum = spent-is-sum HBCS W built;

@@ -8,12 +8,12 @@ use lib.Dec.{eqb}
 use Rattle.rules.specs.Folds.{sum, largest}
 use Rattle.rules.specs.Workflow.{Workflow}
 use Rattle.rules.specs.Ranks.{lowest-cost, next-task}
-use Rattle.rules.specs.Start.{arrival, ready}
+use Rattle.rules.specs.Start.{arrival, arrived, ready}
 use Rattle.rules.specs.Rows.{Placed, row-of, is-placed, busy, spent}
 use Rattle.rules.specs.Method.{Method}
 use Rattle.rules.specs.Placing.{ready-for, start-of, finish-of, RB, RCB, question, row-on, place-next, place}
 use Rattle.rules.specs.Multiplied.{multiplied, multiplied-row}
-use Rattle.laws.specs.Numbers.{or-zero-multiplied, zero-or-multiplied}
+use Rattle.laws.specs.Numbers.{max-multiplied, or-zero-multiplied, zero-or-multiplied}
 use Rattle.laws.specs.Folds.{sum-multiplied, largest-multiplied}
 use Rattle.laws.specs.StartLaws.{start-on-multiplied}
 use Rattle.demands.specs.Ground.MethodLaws.{multiplied-question, KeepsChoices}
@@ -29,20 +29,28 @@ module _ (a b : ℕ) (pa : 1 ≤ a) (W : Workflow) where
     abbrev rows′ : List Placed
     rows′ = map (multiplied-placed a b) rows
 
-    ready-for-multiplied : (i j : ℕ) → ready-for W′ rows′ i j ≡ a * ready-for W rows i j
-    unfolding ready-for ready arrival multiplied multiplied-row
-    ready-for-multiplied i j =
+    arrived-multiplied :
+        (i j : ℕ)
+        → arrived W′ (λ p. row-of rows′ p .processor) (λ p. row-of rows′ p .finish) i j
+        ≡ a * arrived W (λ p. row-of rows p .processor) (λ p. row-of rows p .finish) i j
+    unfolding arrived arrival multiplied multiplied-row
+    arrived-multiplied i j =
         ap (largest (W .edges)) (fun-ext (λ e.
         let r = row-of rows (W .from e) in
         rw (row-of-multiplied a b rows (W .from e), zero-or-multiplied a (eqb (r .processor) j) (W .transfer e), ← mul-add a)
         (or-zero-multiplied a (eqb (W .to e) i) (r .finish + cond (eqb (r .processor) j) 0 (W .transfer e)))))
         ∙ largest-multiplied a (W .edges) _
 
+    ready-for-multiplied : (i j : ℕ) → ready-for W′ rows′ i j ≡ a * ready-for W rows i j
+    unfolding ready-for ready multiplied
+    ready-for-multiplied i j =
+        rw (arrived-multiplied i j) (max-multiplied a (W .clock) (arrived W (λ p. row-of rows p .processor) (λ p. row-of rows p .finish) i j))
+
     pub start-of-multiplied : (i j : ℕ) → start-of W′ rows′ i j ≡ a * start-of W rows i j
     unfolding start-of multiplied
     start-of-multiplied i j =
-        rw (busy-multiplied a b rows j, ready-for-multiplied i j)
-        (start-on-multiplied (busy rows j) (ready-for W rows i j) (W .minutes i j) a pa)
+        rw (busy-multiplied a b W rows j, ready-for-multiplied i j)
+        (start-on-multiplied (busy W rows j) (ready-for W rows i j) (W .minutes i j) a pa)
 
     pub finish-of-multiplied : (i j : ℕ) → finish-of W′ rows′ i j ≡ a * finish-of W rows i j
     unfolding finish-of multiplied

@@ -3,7 +3,7 @@
 use Prim.Native.Nat.{ℕ, zero, suc, _+_, _*_, _/_, _≤_}
 use mathlib.Core.Path.{_≡_, refl, sym, _∙_}
 use mathlib.Core.Bool.{Bool, cond, not, _&&_}
-use mathlib.Core.List.{List, [], _∷_}
+use mathlib.Core.List.{List, [], _∷_, List·Memᴰ·not-nil}
 use native.Mathlib.Omega.{arith}
 use lib.Dec.{eqb}
 use Rattle.rules.specs.Folds.{sum, largest}
@@ -56,6 +56,8 @@ two-by-two budget minutes =
       deadline = no-deadline;
       price = λ j. 1;
       minimum = λ j. 0;
+      busy-at-first = λ j. [];
+      clock = 0;
       minutes = minutes;
       edges = 0;
       from = λ e. 0;
@@ -73,6 +75,9 @@ two-by-two-in-range budget minutes most each =
       budget-in = most;
       deadline-in = λ d e. let z : _≡_ {A = ℕ} 0 1 = cc in absurd (omega arith);
       edges-in = omega arith;
+      first-minutes = λ j v m. absurd (List·Memᴰ·not-nil m);
+      first-end-in = λ j v m. absurd (List·Memᴰ·not-nil m);
+      clock-in = omega arith;
       price-in = λ j. omega arith;
       minimum-in = λ j. omega arith;
       minutes-most = λ i j. each i j .to-high;

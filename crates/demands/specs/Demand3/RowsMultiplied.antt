@@ -5,12 +5,11 @@ use mathlib.Core.Bool.{cond, _||_}
 use mathlib.Core.List.{List, [], _∷_, map}
 use native.Mathlib.Nat.{mul-zero, mul-add}
 use lib.Dec.{eqb}
-use Rattle.rules.specs.Workflow.{Interval}
-use Rattle.rules.specs.Rows.{Placed, row-of, is-placed, busy, spent, length-of}
-use Rattle.rules.specs.Multiplied.{multiplied-row}
+use Rattle.rules.specs.Workflow.{Workflow, busy-with}
+use Rattle.rules.specs.Rows.{Placed, row-of, is-placed, taken-up, busy, spent, length-of}
+use Rattle.rules.specs.Multiplied.{multiplied-interval, multiplied, multiplied-row}
 use Rattle.laws.specs.Tests.{cond-mapped}
 use Rattle.laws.specs.Numbers.{max-multiplied}
-use Rattle.laws.specs.StartLaws.{multiplied-interval}
 
 unfoldable pub multiplied-placed : ℕ → ℕ → Placed → Placed
 multiplied-placed a b p = record { task = p .task; row = multiplied-row a b (p .row) }
@@ -40,11 +39,11 @@ module _ (a b : ℕ) where
   length-of-multiplied (p ∷ rows) = rw (length-of-multiplied rows) (max-multiplied a (length-of rows) (p .row .finish))
 
   pub busy-multiplied :
-      (rows : List Placed) (j : ℕ) → busy (map (multiplied-placed a b) rows) j ≡ map (multiplied-interval a) (busy rows j)
-  unfolding busy multiplied-row multiplied-placed multiplied-interval
-  busy-multiplied [] j = refl
-  busy-multiplied (p ∷ rows) j =
+      (W : Workflow) (rows : List Placed) (j : ℕ)
+      → busy (multiplied a b W) (map (multiplied-placed a b) rows) j ≡ map (multiplied-interval a) (busy W rows j)
+  unfolding busy busy-with multiplied multiplied-row multiplied-placed multiplied-interval
+  busy-multiplied W [] j = refl
+  busy-multiplied W (p ∷ rows) j =
       let r = p .row in
-      let v : Interval = record { begin = r .start; end = r .finish } in
-      rw (busy-multiplied rows j)
-      (sym (cond-mapped (map (multiplied-interval a)) (eqb (r .processor) j) (v ∷ busy rows j) (busy rows j)))
+      rw (busy-multiplied W rows j)
+      (sym (cond-mapped (map (multiplied-interval a)) (eqb (r .processor) j) (taken-up r ∷ busy W rows j) (busy W rows j)))

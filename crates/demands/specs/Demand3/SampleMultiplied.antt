@@ -1,14 +1,14 @@
--- The hypotheses of demand 3 hold of document 01's sample and its times by 3 and prices by 2: both pass reading and one is the other multiplied; and of the
--- sample with a minimum, in other kinds. All but b of at least 1 hold of the sample for nothing.
-use Prim.Native.Nat.{ℕ, zero, suc, _*_, _<_}
+-- The hypotheses of demand 3 hold of document 01's sample and its times by 3 and prices by 2: both pass reading and one is the other multiplied; of the
+-- sample with a minimum, in other kinds, and with windows. All but b of at least 1 hold of the sample for nothing.
+use Prim.Native.Nat.{ℕ, zero, suc, _+_, _*_, _<_}
 use mathlib.Core.Path.{_≡_, refl}
 use mathlib.Core.List.{List, [], _++_}
 use native.Mathlib.Omega.{arith}
 use Rattle.rules.specs.Records.{read}
 use Rattle.rules.specs.Reading.{no-deadline, Request, read-request}
 use Rattle.rules.specs.Workflow.{workflow}
-use Rattle.rules.specs.Multiplied.{multiplied-deadline}
-use Rattle.rules.specs.Cases.{P-record, Q-record, given}
+use Rattle.rules.specs.Multiplied.{multiplied-deadline, multiplied-interval}
+use Rattle.rules.specs.Cases.{P-record, Q-record, M-record, given}
 use Rattle.rules.specs.Starred.{sample, S}
 use Rattle.rules.specs.Corners.{with-processors}
 use Rattle.demands.specs.Demand3.{MultipliedBy}
@@ -26,7 +26,18 @@ three-by-two P of-0 of-0′ of-1 of-1′ of-2 of-2′ (suc i) j l m =
 -- What reading makes of the sample with this budget.
 sampled : ℕ → Request
 sampled budget =
-    record { tasks = 3; processors = 2; budget = budget; deadline = no-deadline; prices-at = 7; tasks-at = 13; edges-at = 73; edges = 2 }
+    record {
+      tasks = 3;
+      processors = 2;
+      budget = budget;
+      deadline = no-deadline;
+      prices-at = 7;
+      windows-at = 13;
+      windows = 0;
+      tasks-at = 13;
+      edges-at = 73;
+      edges = 2;
+    }
 
 -- The sample with times by a and prices by b, and this budget.
 abbrev by : ℕ → ℕ → ℕ → List ℕ
@@ -53,7 +64,7 @@ both-good :
     → ((i j : ℕ) → i < 3 → j < 2 → W′ .minutes i j ≡ a * W .minutes i j)
     → ((e : ℕ) → e < 2 → W′ .transfer e ≡ a * W .transfer e)
     → BothGood a b (S 28) (by a b budget)
-unfolding given sample S sampled multiplied-deadline
+unfolding given sample S sampled multiplied-deadline multiplied-interval
 both-good a b budget reads product price minimum minutes transfer =
     record {
       end = 84;
@@ -69,6 +80,7 @@ both-good a b budget reads product price minimum minutes transfer =
         deadline = refl;
         price = price;
         minimum = minimum;
+        windows = below-two _ refl refl;
         minutes = minutes;
         edges = refl;
         from = below-two _ refl refl;
@@ -87,21 +99,45 @@ sample-both-good =
     (three-by-two _ refl refl refl refl refl refl)
     (below-two _ refl refl)
 
--- With other processor records: a minimum of 10 beside one of 60, and a `P` beside a `Q` with minimum 0.
+-- With other records before the tasks, which begin there, and with so many windows from there on.
+sampled-with : (budget windows-at windows tasks-at : ℕ) → Request
+sampled-with budget windows-at windows tasks-at =
+    record {
+      tasks = 3;
+      processors = 2;
+      budget = budget;
+      deadline = no-deadline;
+      prices-at = 7;
+      windows-at = windows-at;
+      windows = windows;
+      tasks-at = tasks-at;
+      edges-at = tasks-at + 60;
+      edges = 2;
+    }
+
+-- A minimum of 10 beside one of 60, and a `P` beside a `Q` with minimum 0.
 abbrev pub once-with-minimum : List ℕ
 once-with-minimum = with-processors (P-record 0 1 ++ Q-record 1 3 10) (S 28)
 
 abbrev pub tripled-with-minimum : List ℕ
 tripled-with-minimum = with-processors (Q-record 0 2 0 ++ Q-record 1 6 60) tripled
 
+-- Windows of processor 0 from 5 to 7, and of processor 1 from 0 to 1 and from 6 to 9.
+abbrev pub once-with-windows : List ℕ
+once-with-windows = with-processors (P-record 0 1 ++ P-record 1 3 ++ M-record 0 5 7 ++ M-record 1 0 1 ++ M-record 1 6 9) (S 28)
+
+abbrev pub tripled-with-windows : List ℕ
+tripled-with-windows = with-processors (P-record 0 2 ++ P-record 1 6 ++ M-record 0 15 21 ++ M-record 1 0 3 ++ M-record 1 18 27) tripled
+
+-- All that is left to compute are the numbers.
 pub minimum-both-good : BothGood 3 2 once-with-minimum tripled-with-minimum
-unfolding given sample S multiplied-deadline
+unfolding given sample S sampled-with multiplied-deadline multiplied-interval
 minimum-both-good =
     record {
       end = 86;
       end′ = 88;
-      r = record { tasks = 3; processors = 2; budget = 28; deadline = no-deadline; prices-at = 7; tasks-at = 15; edges-at = 75; edges = 2 };
-      r′ = record { tasks = 3; processors = 2; budget = 168; deadline = no-deadline; prices-at = 7; tasks-at = 17; edges-at = 77; edges = 2 };
+      r = sampled-with 28 15 0 15;
+      r′ = sampled-with 168 17 0 17;
       good = refl;
       good′ = refl;
       multiplied = record {
@@ -111,6 +147,33 @@ minimum-both-good =
         deadline = refl;
         price = below-two _ refl refl;
         minimum = below-two _ refl refl;
+        windows = below-two _ refl refl;
+        minutes = three-by-two _ refl refl refl refl refl refl;
+        edges = refl;
+        from = below-two _ refl refl;
+        to = below-two _ refl refl;
+        transfer = below-two _ refl refl;
+      };
+    }
+
+pub windows-both-good : BothGood 3 2 once-with-windows tripled-with-windows
+unfolding given sample S sampled-with multiplied-deadline multiplied-interval
+windows-both-good =
+    record {
+      end = 114;
+      end′ = 114;
+      r = sampled-with 28 13 3 43;
+      r′ = sampled-with 168 13 3 43;
+      good = refl;
+      good′ = refl;
+      multiplied = record {
+        tasks = refl;
+        processors = refl;
+        budget = refl;
+        deadline = refl;
+        price = below-two _ refl refl;
+        minimum = below-two _ refl refl;
+        windows = below-two _ refl refl;
         minutes = three-by-two _ refl refl refl refl refl refl;
         edges = refl;
         from = below-two _ refl refl;

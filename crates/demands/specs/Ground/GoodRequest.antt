@@ -25,15 +25,19 @@ pub outcome-of-stopped :
 unfolding outcome outcome-read
 outcome-of-stopped s e lent = rw e
 
--- 0 from k on.
+-- Always x from k on; and 0.
+abbrev pub EndsIn : {A : Type 0} → A → ℕ → (ℕ → A) → Type 0
+EndsIn x k f = (i : ℕ) → k ≤ i → f i ≡ x
+
 abbrev pub Ends : ℕ → (ℕ → ℕ) → Type 0
-Ends k f = (i : ℕ) → k ≤ i → f i ≡ 0
+Ends k f = EndsIn 0 k f
 
 pub ends-multiplied : (c : ℕ) {k : ℕ} {f : ℕ → ℕ} → Ends k f → Ends k (λ i. c * f i)
 ends-multiplied c ends i l = rw (ends i l) (mul-zero c)
 
 -- Two functions that end at the same number and are the same below it are the same.
-pub same-everywhere : {k l : ℕ} {f g : ℕ → ℕ} → k ≡ l → Ends k f → Ends l g → ((i : ℕ) → i < l → f i ≡ g i) → (i : ℕ) → f i ≡ g i
+pub same-everywhere :
+    {A : Type 0} {x : A} {k l : ℕ} {f g : ℕ → A} → k ≡ l → EndsIn x k f → EndsIn x l g → ((i : ℕ) → i < l → f i ≡ g i) → (i : ℕ) → f i ≡ g i
 same-everywhere {l = l} {f = f} {g = g} e f-ends g-ends same i = go (decLt i l)
   where
     go : Dec (i < l) → f i ≡ g i

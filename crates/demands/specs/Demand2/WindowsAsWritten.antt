@@ -1,0 +1,57 @@
+-- No task of a plan runs while its machine is down, by the windows that stand in the request: its row ends before a window of its processor begins, or
+-- begins when that has ended. Stated of the rows that the caller holds, in lent rows or in four buffers.
+use Prim.Native.Nat.{ℕ, zero, suc, _≤_, _<_}
+use mathlib.Core.Path.{_≡_, ap, subst}
+use mathlib.Core.Bool.{Bool, true, false, cond}
+use mathlib.Core.List.{List, _∷_, List·Memᴰ, List·Memᴰ·head, List·Memᴰ·tail}
+use mathlib.Core.Logic.{_⊎_, ⊎-swap, ⊎-elim}
+use native.Mathlib.Nat.{eq-or-lt-of-le, le-of-suc-le-suc}
+use native.Mathlib.Omega.{arith}
+use lib.Dec.{eqb}
+use borrow.Author.Tests.{eq-eqb}
+use Rattle.rules.specs.Fields.{M-processor, M-begin, M-end}
+use Rattle.rules.specs.Reading.{Request}
+use Rattle.rules.specs.Workflow.{window-place, busy-with, window-of, windows-on, workflow}
+use Rattle.rules.specs.Rows.{Row, taken-up}
+use Rattle.laws.specs.Free.{one-ends-before}
+use Rattle.demands.specs.Ground.GoodWorkflow.{good-workflow}
+use Rattle.demands.specs.Demand1.Reading.{read-iff-passes, records-pass}
+use Rattle.demands.specs.Demand2.{PlanGot}
+
+-- A processor is busy at first with each of its windows.
+window-listed :
+    (s : List ℕ) (r : Request) (k e j : ℕ) → e < k → M-processor s (window-place r e) ≡ j
+    → List·Memᴰ (window-of s (window-place r e)) (windows-on s r k j)
+unfolding windows-on busy-with
+window-listed s r zero e j l on = absurd (omega arith)
+window-listed s r (suc k) e j l on =
+    ⊎-elim
+    (λ last.
+    rw (eq-eqb (M-processor s (window-place r k)) j (subst (λ x. M-processor s (window-place r x) ≡ j) last on))
+    (List·Memᴰ·head (ap (λ x. window-of s (window-place r x)) last)))
+    (λ less. later (eqb (M-processor s (window-place r k)) j) (window-listed s r k e j less on))
+    (eq-or-lt-of-le (le-of-suc-le-suc l))
+  where
+    later :
+        (t : Bool) → List·Memᴰ (window-of s (window-place r e)) (windows-on s r k j)
+        → List·Memᴰ (window-of s (window-place r e)) (cond t (window-of s (window-place r k) ∷ windows-on s r k j) (windows-on s r k j))
+    later true m = List·Memᴰ·tail m
+    later false m = m
+
+-- "`M` is a maintenance window: the processor is down from begin on, up to end."
+pub no-row-in-a-window :
+    {s : List ℕ} {lent n l c left : ℕ} {row : ℕ → Row} (got : PlanGot s lent n l c left row) (i e : ℕ) → i < n → e < got .request .windows
+    → let window = window-place (got .request) e in
+    M-processor s window ≡ row i .processor
+    → (row i .finish ≤ M-begin s window) ⊎ (M-end s window ≤ row i .start)
+unfolding workflow window-of
+no-row-in-a-window {s} {row = row} got i e task below on =
+    let r = got .request in
+    let (end, is-read) = read-iff-passes s r .1 (got .passes) in
+    let row-true = got .held .rows-true i task in
+    let minutes = good-workflow s is-read .minutes i (row i .processor) (row-true .task) (row-true .processor) in
+    let window-in = records-pass s (got .passes) .windows e below .in-range .0 in
+    let window = window-of s (window-place r e) in
+    ⊎-swap
+    (one-ends-before (taken-up (row i)) window (omega (arith, row-true .finish)) (window-in .has-minutes)
+    (got .held .while-up i task window (window-listed s r (r .windows) e (row i .processor) below on)))
