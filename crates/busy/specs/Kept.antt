@@ -1,4 +1,4 @@
--- What is kept of what the processors are busy with, in three arrays.
+-- What is kept of what the processors are busy with, windows and rows alike, in three arrays.
 use Prim.Native.Nat.{ℕ, _+_, _-_, _≤_, _<_}
 use mathlib.Core.Path.{_≡_}
 use mathlib.Core.List.{List, List·Memᴰ}
@@ -8,7 +8,11 @@ use Rattle.rules.specs.Workflow.{Interval}
 use Rattle.laws.specs.Stores.{at}
 use Rattle.busy.specs.declared.Processors.{Processors}
 
--- The row that is kept at k.
+-- How much is kept: 64 windows and 64 rows.
+abbrev pub room-most : ℕ
+room-most = 64 + 64
+
+-- The interval that is kept at k.
 abbrev pub span : (begins ends : List ℕ) → ℕ → Interval
 span begins ends k = record { begin = at begins k; end = at ends k }
 
@@ -20,12 +24,12 @@ kept-busy begins ends first j = listing (at first (j + 1) - at first j) (λ k. s
 abbrev pub kept-by : Processors → ℕ → List Interval
 kept-by p = kept-busy (p .begins) (p .ends) (p .first)
 
--- The rows of 16 processors, at most 64 in all: processor after processor, on each rising by begin, and each has minutes.
+-- The intervals of 16 processors, at most `room-most` in all: processor after processor, on each rising by begin, and each has minutes.
 pub record InOrder (begins ends first : List ℕ) : Type 0 where
-  pub begins-size : length begins ≡ 64
-  pub ends-size : length ends ≡ 64
+  pub begins-size : length begins ≡ room-most
+  pub ends-size : length ends ≡ room-most
   pub first-size : length first ≡ 17
-  pub few : at first 16 ≤ 64
+  pub few : at first 16 ≤ room-most
   pub first-rises : (j : ℕ) → j < 16 → at first j ≤ at first (j + 1)
   pub begins-rise : (j k l : ℕ) → j < 16 → at first j ≤ k → k ≤ l → l < at first (j + 1) → at begins k ≤ at begins l
   pub have-minutes : (k : ℕ) → k < at first 16 → at begins k < at ends k

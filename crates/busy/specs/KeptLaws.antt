@@ -1,4 +1,4 @@
--- Where the rows of a processor stand, and when a task can start there, said of places in the arrays; and the arrays at first.
+-- Where the intervals of a processor stand, and when a task can start there, said of places in the arrays; and the arrays at first.
 use Prim.Native.Nat.{ℕ, zero, suc, _+_, _-_, _≤_, _<_}
 use mathlib.Core.Path.{_≡_, refl, subst}
 use mathlib.Core.List.{List, [], List·Memᴰ}
@@ -11,7 +11,7 @@ use Rattle.rules.specs.Start.{minutes-from, Overlap, Free}
 use Rattle.laws.specs.Listing.{stands-in-listing, in-listing}
 use Rattle.laws.specs.Stores.{at, repeated}
 use Rattle.laws.specs.Filled.{AtMost}
-use Rattle.busy.specs.Kept.{span, kept-busy, InOrder}
+use Rattle.busy.specs.Kept.{room-most, span, kept-busy, InOrder}
 
 module _ (begins ends first : List ℕ) (j : ℕ) where
   pub kept-at : (k : ℕ) → at first j ≤ k → k < at first (j + 1) → List·Memᴰ (span begins ends k) (kept-busy begins ends first j)
@@ -35,14 +35,14 @@ module _ {begins ends first : List ℕ} (order : InOrder begins ends first) wher
       let e : j + suc more ≡ j + more + 1 = omega arith in
       rw e (omega (arith, first-up more j (omega arith), order .first-rises (j + more) (omega arith)))
 
-  -- Rows of an earlier processor stand before those of a later one.
+  -- Those of an earlier processor stand before those of a later one.
   pub first-in-order : (i j : ℕ) → i ≤ j → j ≤ 16 → at first i ≤ at first j
   first-in-order i j l m = let e : i + (j - i) ≡ j = omega arith in rw e at (first-up (j - i) i (omega arith))
 
-  pub first-at-most-64 : AtMost 64 first
-  first-at-most-64 i = go (decLe i 16)
+  pub first-at-most : AtMost room-most first
+  first-at-most i = go (decLe i 16)
     where
-      go : Dec (i ≤ 16) → at first i ≤ 64
+      go : Dec (i ≤ 16) → at first i ≤ room-most
       go (yes l) = omega (arith, first-in-order i 16 l (omega arith), order .few)
       go (no l) = rw (List·getD-eq-default first 0 {n = i} (omega (arith, order .first-size))) (omega arith)
 
@@ -51,7 +51,7 @@ module _ {begins ends first : List ℕ} (order : InOrder begins ends first) wher
       let (k, from, to, e) = kept-from begins ends first j m in
       rw e (order .have-minutes k (omega (arith, first-in-order (j + 1) 16 (omega arith) (omega arith))))
 
--- A task can start at t: no row that is kept from `from` on, up to `to`, is in the way.
+-- A task can start at t: none that is kept from `from` on, up to `to`, is in the way.
 abbrev pub FreeOf : (begins ends : List ℕ) (from to minutes t : ℕ) → Type 0
 FreeOf begins ends from to minutes t = (k : ℕ) → from ≤ k → k < to → Overlap (minutes-from t minutes) (span begins ends k) → ⊥
 
@@ -66,8 +66,8 @@ module _ (begins ends first : List ℕ) (j : ℕ) where
       (minutes t : ℕ) → Free (kept-busy begins ends first j) minutes t → FreeOf begins ends (at first j) (at first (j + 1)) minutes t
   free-at-each minutes t f k from to = f (span begins ends k) (kept-at begins ends first j k from to)
 
--- At first there is no row.
-pub none-in-order : InOrder (replicate 64 0) (replicate 64 0) (replicate 17 0)
+-- At first there is none.
+pub none-in-order : InOrder (replicate 128 0) (replicate 128 0) (replicate 17 0)
 none-in-order =
     record {
       begins-size = refl;
@@ -79,6 +79,6 @@ none-in-order =
       have-minutes = λ k l. absurd (omega arith);
     }
 
-pub none-busy : (j : ℕ) → kept-busy (replicate 64 0) (replicate 64 0) (replicate 17 0) j ≡ []
+pub none-busy : (j : ℕ) → kept-busy (replicate 128 0) (replicate 128 0) (replicate 17 0) j ≡ []
 unfolding kept-busy listing
 none-busy j = rw (repeated {A = ℕ} 17 0 j, repeated {A = ℕ} 17 0 (j + 1))
