@@ -5,6 +5,7 @@ use mathlib.Core.List.{List, List·Memᴰ}
 use lib.ListN.{length}
 use Rattle.rules.specs.Folds.{listing}
 use Rattle.rules.specs.Workflow.{Interval}
+use Rattle.laws.specs.SameStart.{SameStart}
 use Rattle.laws.specs.Stores.{at}
 use Rattle.busy.specs.declared.Processors.{Processors}
 
@@ -37,3 +38,9 @@ pub record InOrder (begins ends first : List ℕ) : Type 0 where
 -- All of them end by c.
 abbrev pub EndBy : ℕ → (begins ends first : List ℕ) → Type 0
 EndBy c begins ends first = (j : ℕ) → j < 16 → (v : Interval) → List·Memᴰ v (kept-busy begins ends first j) → v .end ≤ c
+
+-- What is kept of the processors: so many intervals in order, which give the same starts as what each is busy with.
+pub record Keeps (busy : ℕ → List Interval) (count : ℕ) (p : Processors) : Type 0 where
+  pub in-order : InOrder (p .begins) (p .ends) (p .first)
+  pub in-all : at (p .first) 16 ≡ count
+  pub holds : (j : ℕ) → j < 16 → SameStart (kept-by p j) (busy j)

@@ -5,3 +5,4 @@ pub mod Put
 pub mod PlaceLaws
 pub mod InsertedLaws
 pub mod PutLaws
+pub mod KeepsLaws
