@@ -6,6 +6,7 @@ use lib.Dec.{leb}
 use Rattle.rules.specs.Folds.{largest, lowest}
 use Rattle.rules.specs.Orders.{Order, tie, lower, first}
 use Rattle.rules.specs.Method.{Question, or-one, may-be-taken, score}
+use Rattle.laws.specs.Bounds as bounds
 use Rattle.laws.specs.Bounds.{asked-finish-most, cost-most, total-most, budget-most}
 use Rattle.choosing.specs.declared.figures.Figures.{Figures}
 use Rattle.choosing.specs.declared.figures.Weights.{Weights}
@@ -51,8 +52,8 @@ pub record FiguresInRange (g : Figures) : Type 0 where
 pub record Weighed (g : Figures) (w : Weights) : Type 0 where
   pub saved : w .saved ≡ g .rcb * or-one (g .latest - g .earliest)
   pub early : w .early ≡ or-one (g .highest - g .lowest) * or-one (g .rb)
-  pub saved-most : w .saved ≤ 2_560_000_000_000
-  pub early-most : w .early ≤ 4_000_000_000_000
+  pub saved-most : w .saved ≤ bounds.saved-most
+  pub early-most : w .early ≤ bounds.early-most
 
 -- `may-be-taken` and `score` of the rules, by the figures.
 unfoldable pub may-by : Figures → ℕ → Bool

@@ -8,7 +8,7 @@ use native.Mathlib.Omega.{arith}
 use Rattle.rules.specs.Folds.{largest, lowest}
 use Rattle.rules.specs.Orders.{tie, lower, first}
 use Rattle.rules.specs.Method.{Question, or-one, best, may-be-taken, latest-finish, B, F, score}
-use Rattle.laws.specs.Bounds.{asked-finish-most, cost-most, budget-most}
+use Rattle.laws.specs.Bounds.{asked-finish-most, cost-most, budget-most, saved-most, early-most}
 use Rattle.laws.specs.Tests.{cond-either}
 use Rattle.laws.specs.Folds.{largest-next, lowest-next, largest-at-most}
 use Rattle.laws.specs.Orders.{lower-true, lower-false}
@@ -26,20 +26,20 @@ or-one-at-most (suc x) b some h = h
 
 -- No product of a score wraps.
 module _ (g : Figures) (h : FiguresInRange g) where
-  pub saved-at-most : {f : ℕ} → f ≡ or-one (g .latest - g .earliest) → g .rcb * f ≤ 2_560_000_000_000
+  pub saved-at-most : {f : ℕ} → f ≡ or-one (g .latest - g .earliest) → g .rcb * f ≤ saved-most
   saved-at-most e = rw e (mul-le-mul (h .rcb) (or-one-at-most (g .latest - g .earliest) asked-finish-most (omega arith) (omega arith)))
 
-  pub early-at-most : {b rb : ℕ} → b ≡ or-one (g .highest - g .lowest) → rb ≡ or-one (g .rb) → b * rb ≤ 4_000_000_000_000
+  pub early-at-most : {b rb : ℕ} → b ≡ or-one (g .highest - g .lowest) → rb ≡ or-one (g .rb) → b * rb ≤ early-most
   early-at-most e d =
       rw (e, d)
       (mul-le-mul (or-one-at-most (g .highest - g .lowest) cost-most (omega arith) (omega arith))
       (or-one-at-most (g .rb) budget-most (omega arith) (h .rb)))
 
 module _ (g : Figures) (w : Weights) (weighed : Weighed g w) where
-  pub saved-part-at-most : (x : ℕ) → x ≤ cost-most → x * w .saved ≤ 512_000_000_000_000_000
+  pub saved-part-at-most : (x : ℕ) → x ≤ cost-most → x * w .saved ≤ cost-most * saved-most
   saved-part-at-most x h = mul-le-mul h (weighed .saved-most)
 
-  pub early-part-at-most : (x : ℕ) → x ≤ asked-finish-most → x * w .early ≤ 800_000_000_000_000_000
+  pub early-part-at-most : (x : ℕ) → x ≤ asked-finish-most → x * w .early ≤ asked-finish-most * early-most
   early-part-at-most x h = mul-le-mul h (weighed .early-most)
 
   pub score-weighed : (cost finish : ℕ) {x y : ℕ} → x ≡ g .best - cost → y ≡ g .latest - finish → x * w .saved + y * w .early ≡ score-by g cost finish

@@ -2,7 +2,7 @@
 ghost use mathlib.Core.Path.{_≡_};
 ghost use Prim.Native.Nat.{_+_, _≤_};
 ghost use lib.Dec.{leb};
-ghost use Rattle.laws.specs.Bounds.{cost-most, total-most};
+ghost use Rattle.laws.specs.Bounds.{cost-most, total-most, score-most};
 ghost use Rattle.choosing.specs.Asked.{asked};
 ghost use Rattle.choosing.specs.Figured.{BestCost, Passed, FiguresOf, FiguresInRange, Weighed, may-by, score-by, standing-by};
 
@@ -114,7 +114,7 @@ pub fn weights_of(g: Figures) -> Weights
 fn score(g: Figures, w: Weights, cost: u64, finish: u64) -> u64
     requires { ⌜ FiguresInRange g ⌝ }
     requires { ⌜ Weighed g w ⌝ }
-    ensures { λ r. ⌜ (r ≡ score-by g cost finish) × (r ≤ 1_312_000_000_000_000_000) ⌝ }
+    ensures { λ r. ⌜ (r ≡ score-by g cost finish) × (r ≤ score-most) ⌝ }
 {
     numbers::less(g.best, cost) * w.saved + numbers::less(g.latest, finish) * w.early
 }

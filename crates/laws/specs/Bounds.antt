@@ -1,6 +1,7 @@
 -- Bounds of what is computed for a request that passes reading, each from the ranges of the rules: 1 to 64 tasks, 1 to 16 processors, 1 to 2,000 minutes,
 -- transfers of 0 to 1,000 minutes, windows that end by 20,000, prices of 0 to 100, minimums of 0 to 10,000, a budget of 0 to 20,000,000.
-use Prim.Native.Nat.{ℕ, _+_, _*_}
+use Prim.Native.Nat.{ℕ, _+_, _*_, _^_, _<_}
+use native.Mathlib.Omega.{arith}
 
 -- Minutes that a task adds to a plan's length: the wait for its data, and its own minutes.
 abbrev pub added-most : ℕ
@@ -33,6 +34,20 @@ total-most = 64 * cost-most
 -- RB, and what is left of the budget: the whole budget.
 abbrev pub budget-most : ℕ
 budget-most = 20_000_000
+
+-- What a score multiplies a saved cost by, RCB x F', and what it multiplies minutes by, B' x RB'.
+abbrev pub saved-most : ℕ
+saved-most = total-most * asked-finish-most
+
+abbrev pub early-most : ℕ
+early-most = cost-most * budget-most
+
+-- A score: 1,443,200,000,000,000,000, which fits 64 bits.
+abbrev pub score-most : ℕ
+score-most = cost-most * saved-most + asked-finish-most * early-most
+
+pub score-fits : score-most < 2 ^ 64
+score-fits = omega arith
 
 -- What a task adds to the rank of those before it: its minutes on 16 processors, and 16 times a transfer.
 abbrev pub rank-added-most : ℕ

@@ -24,16 +24,12 @@ finish-in-length (p ∷ rows) i =
     cond-either (λ r. r .finish ≤ max (length-of rows) (p .row .finish)) (eqb (p .task) i) (p .row) (row-of rows i) (λ e. omega arith)
     (λ e. omega (arith, finish-in-length rows i))
 
--- What the processors are busy with at first ends by then, and so does the wait for the clock.
-pub record BeginsBy (W : Workflow) (c : ℕ) : Type 0 where
-  pub clock-by : W .clock ≤ c
-  pub first-by : (j : ℕ) (v : Interval) → List·Memᴰ v (W .busy-at-first j) → v .end ≤ c
-
-module _ (W : Workflow) {c : ℕ} (begins : BeginsBy W c) where
+-- What the processors are busy with at first ends by c.
+module _ (W : Workflow) (c : ℕ) (first-in : (j : ℕ) (v : Interval) → List·Memᴰ v (W .busy-at-first j) → v .end ≤ c) where
   -- Nor is a processor busy once that and the length are past.
   pub busy-in-length : (rows : List Placed) (j : ℕ) (v : Interval) → List·Memᴰ v (busy W rows j) → v .end ≤ max c (length-of rows)
   unfolding busy busy-with length-of
-  busy-in-length [] j v m = omega (arith, begins .first-by j v m)
+  busy-in-length [] j v m = omega (arith, first-in j v m)
   busy-in-length (p ∷ rows) j v m = go (eqb (p .row .processor) j) (busy-in-length rows j v) m
     where
       go :
@@ -51,7 +47,7 @@ module _ (W : Workflow) {c : ℕ} (begins : BeginsBy W c) where
       start-at-most (busy W rows j) ready minutes d by-then (λ v m. omega (arith, busy-in-length rows j v m))
 
 module _ (W : Workflow) (minutes-in : (i j : ℕ) → W .minutes i j ≤ 2_000) (transfer-in : (e : ℕ) → W .transfer e ≤ 1_000)
-    (begins : BeginsBy W first-most) where
+    (clock-in : W .clock ≤ first-most) (first-in : (j : ℕ) (v : Interval) → List·Memᴰ v (W .busy-at-first j) → v .end ≤ first-most) where
   module _ (rows : List Placed) (i j : ℕ) where
     arrived-in-reach : arrived W (λ p. row-of rows p .processor) (λ p. row-of rows p .finish) i j ≤ length-of rows + 1_000
     unfolding arrived arrival
@@ -64,13 +60,13 @@ module _ (W : Workflow) (minutes-in : (i j : ℕ) → W .minutes i j ≤ 2_000) 
 
     pub ready-in-reach : ready-for W rows i j ≤ max first-most (length-of rows + 1_000)
     unfolding ready-for ready
-    ready-in-reach = omega (arith, arrived-in-reach, begins .clock-by)
+    ready-in-reach = omega (arith, arrived-in-reach, clock-in)
 
     finish-in-reach : finish-of W rows i j ≤ max first-most (length-of rows + 1_000) + 2_000
     unfolding finish-of start-of
     finish-in-reach =
         let d : ℕ = max first-most (length-of rows + 1_000) in
-        omega (arith, start-in-length W begins rows j _ (W .minutes i j) d ready-in-reach (omega arith) (omega arith), minutes-in i j)
+        omega (arith, start-in-length W first-most first-in rows j _ (W .minutes i j) d ready-in-reach (omega arith) (omega arith), minutes-in i j)
 
   -- One task more.
   pub length-in-reach :

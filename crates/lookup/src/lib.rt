@@ -2,14 +2,38 @@
 ghost use mathlib.Core.Path.{_≡_};
 ghost use Prim.Native.Nat.{_+_, _≤_, _<_};
 ghost use lib.ListN.{length};
-ghost use Rattle.rules.specs.Fields.{E, size};
-ghost use Rattle.rules.specs.Workflow.{task-place, edge-place};
+ghost use Rattle.rules.specs.Fields.{E, size, M-processor, M-begin, M-end};
+ghost use Rattle.rules.specs.Workflow.{window-place, task-place, edge-place};
 ghost use Rattle.rules.specs.Labels.{label-lookup};
 ghost use Rattle.good.specs.Ranges.{request-most};
 ghost use Rattle.reader.specs.Meaning.{ViewOf, meant-view};
 ghost use Rattle.lookup.specs.Lookup.{workflow-of, meant-part, LabelOf};
 use reader::Reading;
 use reader::View;
+
+// A window: its processor is down from `begin` on, up to `end`.
+pub struct Window {
+    pub processor: usize,
+    pub begin: u64,
+    pub end: u64,
+}
+
+// A window of a good request.
+pub fn window(s: &[u8], v: View, window: usize) -> Window
+    requires { ⌜ ViewOf (now s) v ⌝ }
+    requires { ⌜ window < v .windows ⌝ }
+    ensures { λ r. ⌜ (r .processor ≡ M-processor (now (s .entry)) (window-place (meant-view v) window)) × (r .begin ≡ M-begin (now (s .entry)) (window-place (meant-view v) window)) × (r .end ≡ M-end (now (s .entry)) (window-place (meant-view v) window)) ⌝ }
+{
+    let at = v.windows_at + window * 10;
+    let processor = fields::field(s, at, 1);
+    let begin = fields::four_bytes(s, at, 2);
+    let end = fields::four_bytes(s, at, 6);
+    Window {
+        processor,
+        begin,
+        end,
+    }
+}
 
 // Where the record of a task begins: each has its `T` and a `W` for every processor.
 fn task_place(v: View, task: usize) -> usize

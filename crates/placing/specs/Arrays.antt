@@ -1,23 +1,16 @@
 -- The arrays at first, and with one more row: a store keeps what each holds.
-use Prim.Native.Nat.{ℕ, _+_, _<_}
+use Prim.Native.Nat.{ℕ, _<_}
 use mathlib.Core.Path.{_≡_, refl, sym, _∙_}
 use mathlib.Core.Bool.{Bool, true, false, cond, _||_}
 use mathlib.Core.List.{List, [], _∷_}
 use native.Mathlib.Omega.{arith}
 use lib.Dec.{eqb}
 use lib.ListN.{set, length-set, replicate}
-use Rattle.rules.specs.Rows.{Row, Placed, row-of, is-placed, busy}
-use Rattle.laws.specs.SameStart.{SameStart, same-start-more}
-use Rattle.laws.specs.LatestFinish.{taken-up}
+use Rattle.rules.specs.Rows.{Row, Placed, row-of, is-placed}
 use Rattle.laws.specs.Tests.{cond-mapped}
 use Rattle.laws.specs.Stores.{stored-holds, repeated}
-use Rattle.busy.specs.declared.Processors.{Processors}
-use Rattle.busy.specs.Kept.{kept-by}
-use Rattle.busy.specs.KeptLaws.{none-in-order, none-busy}
-use Rattle.busy.specs.Put.{WithRow}
-use Rattle.busy.specs.PutLaws.{put-all, put-in-order, put-busy}
 use Rattle.placing.specs.Placed.{Column, Columns}
-use Rattle.placing.specs.Kept.{Marks, KeptBusy}
+use Rattle.placing.specs.Kept.{Marks}
 
 -- At first no task has a row.
 column-first : (field : Row → ℕ) → ((i : ℕ) → field (row-of [] i) ≡ 0) → Column field [] (replicate 64 0)
@@ -36,10 +29,6 @@ columns-first =
 pub marks-first : Marks [] (replicate 64 false)
 unfolding is-placed
 marks-first = record { size = refl; holds = repeated 64 false }
-
-pub busy-first : KeptBusy [] 0 (record { begins = replicate 64 0; ends = replicate 64 0; first = replicate 17 0 })
-unfolding busy
-busy-first = record { in-order = none-in-order; in-all = refl; holds = λ j l. rw (none-busy j) (λ ready minutes. refl) }
 
 module _ (p : Placed) (rows : List Placed) where
   column-more : (field : Row → ℕ) {xs : List ℕ} → Column field rows xs → p .task < 64 → Column field (p ∷ rows) (set xs (p .task) (field (p .row)))
@@ -75,24 +64,3 @@ module _ (p : Placed) (rows : List Placed) where
       go : (s t : Bool) → cond s true t ≡ (s || t)
       go true t = refl
       go false t = refl
-
-  -- Its row is put among those of its processor.
-  pub busy-more :
-      {k : ℕ} {before after : Processors} → KeptBusy rows k before → p .row .processor < 16 → k < 64 → p .row .start < p .row .finish
-      → WithRow k (p .row .processor) (p .row .start) (p .row .finish) before after → KeptBusy (p ∷ rows) (k + 1) after
-  unfolding busy
-  busy-more {before = before} held l few some put =
-      let order = held .in-order in
-      record {
-        in-order = put-in-order order (held .in-all) l few some put;
-        in-all = put-all order (held .in-all) l few some put;
-        holds = λ j below ready minutes.
-            put-busy order (held .in-all) l few some put j below ready minutes
-            ∙ go j (eqb (p .row .processor) j) (held .holds j below) ready minutes;
-      }
-    where
-      go :
-          (j : ℕ) (s : Bool) → SameStart (kept-by before j) (busy rows j)
-          → SameStart (cond s (taken-up (p .row) ∷ kept-by before j) (kept-by before j)) (cond s (taken-up (p .row) ∷ busy rows j) (busy rows j))
-      go j true same = same-start-more (taken-up (p .row)) _ _ same
-      go j false same = same

@@ -1,5 +1,5 @@
 -- What the code keeps once k tasks are placed: the rows so far, in arrays, and what these come to.
-use Prim.Native.Nat.{ℕ, _+_, _*_, _-_, _≤_, _<_}
+use Prim.Native.Nat.{ℕ, _+_, _*_, _-_, _≤_}
 use mathlib.Core.Path.{_≡_}
 use mathlib.Core.Bool.{Bool, false}
 use mathlib.Core.List.{List}
@@ -8,12 +8,9 @@ use Rattle.rules.specs.Workflow.{Workflow}
 use Rattle.rules.specs.Ranks.{lowest-cost}
 use Rattle.rules.specs.Rows as rules
 use Rattle.rules.specs.Rows.{Placed, is-placed, busy}
-use Rattle.laws.specs.Bounds.{added-most, cost-most}
-use Rattle.laws.specs.SameStart.{SameStart}
-use Rattle.laws.specs.Stores.{at}
+use Rattle.laws.specs.Bounds.{first-most, added-most, cost-most}
 use Rattle.laws.specs.Unmarked.{sum-unmarked, count-unmarked}
-use Rattle.busy.specs.Kept.{kept-by, InOrder}
-use Rattle.busy.specs.declared.Processors.{Processors}
+use Rattle.busy.specs.Kept.{Keeps}
 use Rattle.placing.specs.Placed.{Columns}
 use Rattle.placing.specs.State.{State}
 
@@ -22,22 +19,19 @@ pub record Marks (rows : List Placed) (placed : List Bool) : Type 0 where
   pub size : length placed ≡ 64
   pub holds : (i : ℕ) → getD placed i false ≡ is-placed rows i
 
--- What is kept of the processors: k rows in order, which give the same starts as what the rules say each is busy with.
-pub record KeptBusy (rows : List Placed) (k : ℕ) (processors : Processors) : Type 0 where
-  pub in-order : InOrder (processors .begins) (processors .ends) (processors .first)
-  pub in-all : at (processors .first) 16 ≡ k
-  pub holds : (j : ℕ) → j < 16 → SameStart (kept-by processors j) (busy rows j)
-
 -- The rows of k tasks, and what the code keeps of them.
 pub record Kept (W : Workflow) (rows : List Placed) (k : ℕ) (state : State) : Type 0 where
   pub columns : Columns rows (state .sits) (state .starts) (state .ends) (state .costs)
   pub marks : Marks rows (state .placed)
-  pub processors : KeptBusy rows k (state .processors)
+  -- What the processors are busy with: at most 64 intervals at first, and k rows.
+  pub intervals : ℕ
+  pub processors : Keeps (busy W rows) intervals (state .processors)
+  pub few-intervals : intervals ≤ 64 + k
   pub rb-is : state .rb ≡ W .budget - rules.spent rows
   pub spent-is : state .spent ≡ rules.spent rows
   pub rcb-is : state .rcb ≡ sum-unmarked (W .tasks) (is-placed rows) (lowest-cost W)
   pub length-is : state .length ≡ rules.length-of rows
   -- k tasks have a row, and what each adds is bounded.
   pub count : count-unmarked (W .tasks) (is-placed rows) + k ≡ W .tasks
-  pub length-most : rules.length-of rows ≤ added-most * k
+  pub length-most : rules.length-of rows ≤ first-most + added-most * k
   pub spent-most : state .spent ≤ cost-most * k

@@ -1,10 +1,11 @@
 -- The task in hand, over what is kept, is the rules' over the rows.
-use Prim.Native.Nat.{ℕ, _+_, _<_}
+use Prim.Native.Nat.{ℕ, _+_, _≤_, _<_, max}
 use mathlib.Core.Path.{_≡_, refl, ap, _∙_}
 use mathlib.Core.List.{List}
+use native.Mathlib.Decide.{decLt}
 use native.Mathlib.Omega.{arith}
 use Rattle.rules.specs.Workflow.{Workflow}
-use Rattle.rules.specs.Start.{ready, start-on}
+use Rattle.rules.specs.Start.{arrived, ready, start-on}
 use Rattle.rules.specs.Rows.{Placed, busy}
 use Rattle.rules.specs.Method.{Question, Method}
 use Rattle.rules.specs.Placing.{ready-for, start-of, finish-of, RB, RCB, question, row-on}
@@ -13,9 +14,9 @@ use Rattle.laws.specs.Bounds.{ready-most}
 use Rattle.laws.specs.LatestFinish.{ready-in-reach}
 use Rattle.laws.specs.Method.{ChoosesAmong}
 use Rattle.laws.specs.Stores.{at}
-use Rattle.laws.specs.Filled.{AtMost, Filled}
-use Rattle.laws.specs.FilledLaws.{filled-at-most}
+use Rattle.laws.specs.Filled.{AtMost}
 use Rattle.busy.specs.Kept.{kept-by}
+use Rattle.ready.specs.Ready.{FromClock}
 use Rattle.hand.specs.Hand.{start-by, finish-by, question-by, row-by}
 use Rattle.hand.specs.declared.Row as code
 use Rattle.placing.specs.State.{State, meant-row}
@@ -27,29 +28,33 @@ unfolding question
 takes among range rows i = among .takes-processor _ (range .processors-in .from-low)
 
 module _ {W : Workflow} (range : InRange W) {rows : List Placed} {k : ℕ} {state : State} (kept : Kept W rows k state) (i : ℕ)
-    {minutes : List ℕ} (all-ready : Filled (W .processors) (ready W (at (state .sits)) (at (state .ends)) i) minutes) where
-  ready-kept : (j : ℕ) → ready W (at (state .sits)) (at (state .ends)) i j ≡ ready-for W rows i j
-  unfolding ready-for
+    {minutes : List ℕ} (all-ready : FromClock (W .clock) (W .processors) (arrived W (at (state .sits)) (at (state .ends)) i) minutes) where
+  ready-kept : (j : ℕ) → max (W .clock) (arrived W (at (state .sits)) (at (state .ends)) i j) ≡ ready-for W rows i j
+  unfolding ready-for ready
   ready-kept j =
       let sits-hold = kept .columns .processors-hold .holds in
       let ends-hold = kept .columns .finishes-hold .holds in
-      λ t. ready W (λ p. sits-hold p t) (λ p. ends-hold p t) i j
+      λ t. max (W .clock) (arrived W (λ p. sits-hold p t) (λ p. ends-hold p t) i j)
 
   pub ready-within : k < W .tasks → AtMost ready-most minutes
-  ready-within more =
-      filled-at-most all-ready ready-most (λ j.
-      omega (
-        arith,
-        ready-kept j,
-        ready-in-reach W (range .minutes-most) (range .transfer-in) rows i j,
-        kept .length-most,
-        range .tasks-in,
-      ))
+  ready-within more j = go (decLt j (W .processors))
+    where
+      go : Dec (j < W .processors) → at minutes j ≤ ready-most
+      go (yes l) =
+          omega (
+            arith,
+            all-ready .below j l,
+            ready-kept j,
+            ready-in-reach W (range .minutes-most) (range .transfer-in) (range .clock-in) (range .first-end-in) rows i j,
+            kept .length-most,
+            range .tasks-in,
+          )
+      go (no past) = omega (arith, all-ready .past j (omega arith), range .clock-in)
 
   start-kept : (j : ℕ) → j < W .processors → start-by W (at minutes) (kept-by (state .processors)) i j ≡ start-of W rows i j
   unfolding start-by start-of
   start-kept j l =
-      kept .processors .holds j (omega (arith, range .processors-in)) _ _ ∙ ap (λ r. start-on (busy rows j) r (W .minutes i j)) (all-ready .below j l ∙ ready-kept j)
+      kept .processors .holds j (omega (arith, range .processors-in)) _ _ ∙ ap (λ r. start-on (busy W rows j) r (W .minutes i j)) (all-ready .below j l ∙ ready-kept j)
 
   finish-kept : (j : ℕ) → j < W .processors → finish-by W (at minutes) (kept-by (state .processors)) i j ≡ finish-of W rows i j
   unfolding finish-by finish-of

@@ -10,8 +10,7 @@ use Rattle.rules.specs.Ranks.{R, lowest-cost, cheapest-total, next-task}
 use Rattle.rules.specs.Rows.{Placed, is-placed, busy, spent, length-of}
 use Rattle.rules.specs.Placing.{RCB}
 use Rattle.good.specs.Ranges.{InRange}
-use Rattle.laws.specs.Bounds.{finish-most, ready-most, cost-most, total-most, budget-most}
-use Rattle.laws.specs.SameStart.{same-start-ends}
+use Rattle.laws.specs.Bounds.{first-most, finish-most, ready-most, cost-most, total-most, budget-most}
 use Rattle.laws.specs.LatestFinish.{finish-in-length, busy-in-length}
 use Rattle.laws.specs.Tests.{cond-either}
 use Rattle.laws.specs.Folds.{sum-at-most-each}
@@ -20,25 +19,29 @@ use Rattle.laws.specs.First.{first-same}
 use Rattle.laws.specs.Unmarked.{sum-unmarked-less, count-unmarked-at-first}
 use Rattle.laws.specs.NextTask.{next-task-free}
 use Rattle.laws.specs.Filled.{AtMost}
-use Rattle.busy.specs.Kept.{EndBy}
-use Rattle.busy.specs.KeptLaws.{kept-has-minutes}
+use Rattle.busy.specs.declared.Processors.{Processors}
+use Rattle.busy.specs.Kept.{Keeps, EndBy}
+use Rattle.busy.specs.KeepsLaws.{keeps-end-by}
 use Rattle.costs.specs.CostLaws.{lowest-cost-at-most}
 use Rattle.order.specs.Standing.{placing-order}
 use Rattle.placing.specs.Placed.{RanksOf, Columns}
 use Rattle.placing.specs.State.{State, without-rows}
 use Rattle.placing.specs.Kept.{Kept}
-use Rattle.placing.specs.Arrays.{marks-first, busy-first}
+use Rattle.placing.specs.Arrays.{marks-first}
 
 -- At first no task is placed.
 pub kept-first :
-    (W : Workflow) {sits starts ends costs : List ℕ} {rb rcb : ℕ} → Columns [] sits starts ends costs → rb ≡ W .budget → rcb ≡ cheapest-total W
-    → Kept W [] 0 (without-rows sits starts ends costs rb rcb)
-unfolding is-placed spent length-of cheapest-total
-kept-first W none budget cheapest =
+    (W : Workflow) {sits starts ends costs : List ℕ} {processors : Processors} {intervals rb rcb : ℕ} → Columns [] sits starts ends costs
+    → Keeps (W .busy-at-first) intervals processors → intervals ≤ 64 → rb ≡ W .budget → rcb ≡ cheapest-total W
+    → Kept W [] 0 (without-rows sits starts ends costs processors rb rcb)
+unfolding is-placed busy spent length-of cheapest-total
+kept-first W {intervals = intervals} none keeps few budget cheapest =
     record {
       columns = none;
       marks = marks-first;
-      processors = busy-first;
+      intervals = intervals;
+      processors = keeps;
+      few-intervals = omega arith;
       rb-is = omega arith;
       spent-is = refl;
       rcb-is = cheapest;
@@ -57,9 +60,9 @@ module _ {W : Workflow} (range : InRange W) {rows : List Placed} {k : ℕ} {stat
   ends-within i = omega (arith, kept .columns .finishes-hold .holds i, finish-in-length rows i, length-within)
 
   pub busy-within : EndBy ready-most (state .processors .begins) (state .processors .ends) (state .processors .first)
-  busy-within j l v m =
-      same-start-ends _ (busy rows j) (kept .processors .holds j l) ready-most (λ u n. omega (arith, busy-in-length rows j u n, length-within)) v m
-      (kept-has-minutes (kept .processors .in-order) l m)
+  busy-within =
+      keeps-end-by (kept .processors) ready-most
+      (λ j l v m. omega (arith, busy-in-length W first-most (range .first-end-in) rows j v m, length-within))
 
   pub rb-within : state .rb ≤ budget-most
   rb-within = omega (arith, kept .rb-is, range .budget-in)

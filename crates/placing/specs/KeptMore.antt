@@ -6,8 +6,8 @@ use native.Mathlib.Numerals.{add-one}
 use native.Mathlib.Omega.{arith}
 use Rattle.rules.specs.Workflow.{Workflow}
 use Rattle.rules.specs.Ranks.{next-task}
-use Rattle.rules.specs.Start.{ready}
-use Rattle.rules.specs.Rows.{Row, Placed, is-placed, spent, length-of}
+use Rattle.rules.specs.Start.{arrived}
+use Rattle.rules.specs.Rows.{Row, Placed, is-placed, busy, spent, length-of}
 use Rattle.rules.specs.Method.{Method}
 use Rattle.rules.specs.Placing.{start-of, finish-of, RCB, question, row-on, place-next, place}
 use Rattle.good.specs.Ranges.{InRange}
@@ -15,29 +15,30 @@ use Rattle.laws.specs.LatestFinish.{length-in-reach}
 use Rattle.laws.specs.Unmarked.{sum-unmarked-less}
 use Rattle.laws.specs.Method.{ChoosesAmong}
 use Rattle.laws.specs.Stores.{at}
-use Rattle.laws.specs.Filled.{Filled}
 use Rattle.busy.specs.declared.Processors.{Processors}
 use Rattle.busy.specs.Kept.{kept-by}
-use Rattle.busy.specs.Put.{WithRow}
+use Rattle.busy.specs.Put.{WithInterval}
+use Rattle.busy.specs.KeepsLaws.{keeps-more}
+use Rattle.ready.specs.Ready.{FromClock}
 use Rattle.hand.specs.Hand.{row-by}
 use Rattle.hand.specs.declared.Row as code
 use Rattle.costs.specs.CostLaws.{cost-at-most}
 use Rattle.placing.specs.State.{State, meant-row, with-row}
 use Rattle.placing.specs.Kept.{Kept}
-use Rattle.placing.specs.Arrays.{columns-more, marks-more, busy-more}
+use Rattle.placing.specs.Arrays.{columns-more, marks-more}
 use Rattle.placing.specs.KeptHand.{takes, row-kept}
 use Rattle.placing.specs.KeptLaws.{next-free}
 
--- The row of a task is put among the k that are kept of the processors.
-abbrev pub PutIn : (k : ℕ) → Processors → Row → Processors → Type 0
-PutIn k before row after = WithRow k (row .processor) (row .start) (row .finish) before after
+-- The row of a task is put among the intervals that are kept of the processors.
+abbrev pub PutIn : (intervals : ℕ) → Processors → Row → Processors → Type 0
+PutIn intervals before row after = WithInterval intervals (row .processor) (row .start) (row .finish) before after
 
 -- On any processor.
 kept-on :
-    {W : Workflow} {rows : List Placed} {k i to-come j : ℕ} {state : State} {after : Processors} → InRange W → Kept W rows k state → k < W .tasks
-    → i ≡ next-task W (is-placed rows) → to-come ≡ RCB W rows i → j < W .processors → PutIn k (state .processors) (row-on W rows i j) after
+    {W : Workflow} {rows : List Placed} {k i to-come j : ℕ} {state : State} {after : Processors} → InRange W → (kept : Kept W rows k state) → k < W .tasks
+    → i ≡ next-task W (is-placed rows) → to-come ≡ RCB W rows i → j < W .processors → PutIn (kept .intervals) (state .processors) (row-on W rows i j) after
     → Kept W (record { task = i; row = row-on W rows i j } ∷ rows) (k + 1) (with-row state i (row-on W rows i j) to-come after)
-unfolding spent length-of is-placed RCB row-on start-of finish-of
+unfolding busy spent length-of is-placed RCB row-on start-of finish-of
 kept-on {W} {rows} {k} {i} {j = j} range kept more next to-come-is below put =
     let new : Placed = record { task = i; row = row-on W rows i j } in
     let (task, free) = next-free range kept more next in
@@ -48,14 +49,15 @@ kept-on {W} {rows} {k} {i} {j = j} range kept more next to-come-is below put =
     record {
       columns = columns-more new rows (kept .columns) in-array;
       marks = marks-more new rows (kept .marks) in-array;
-      processors =
-          busy-more new rows (kept .processors) in-reach (omega (arith, range .tasks-in)) some put;
+      intervals = kept .intervals + 1;
+      processors = keeps-more (kept .processors) in-reach (omega (arith, kept .few-intervals, range .tasks-in)) some put;
+      few-intervals = omega (arith, kept .few-intervals);
       rb-is = omega (arith, kept .rb-is);
       spent-is = ap (λ x. x + new .row .cost) (kept .spent-is);
       rcb-is = to-come-is;
       length-is = ap (λ x. max x (new .row .finish)) (kept .length-is);
       count = omega (arith, kept .count);
-      length-most = length-in-reach W (range .minutes-most) (range .transfer-in) new rows k i j refl (kept .length-most);
+      length-most = length-in-reach W (range .minutes-most) (range .transfer-in) (range .clock-in) (range .first-end-in) new rows k i j refl (kept .length-most);
       spent-most = omega (arith, kept .spent-most, cost-at-most W range i j);
     }
 
@@ -65,7 +67,7 @@ module _ {M : Method} (among : ChoosesAmong M) {W : Workflow} (range : InRange W
     {i : ℕ}
     (next : i ≡ next-task W (is-placed (place M W k)))
     {minutes : List ℕ}
-    (all-ready : Filled (W .processors) (ready W (at (state .sits)) (at (state .ends)) i) minutes)
+    (all-ready : FromClock (W .clock) (W .processors) (arrived W (at (state .sits)) (at (state .ends)) i) minutes)
     {to-come : ℕ}
     (to-come-is : to-come ≡ RCB W (place M W k) i)
     {r : code.Row}
@@ -85,6 +87,6 @@ module _ {M : Method} (among : ChoosesAmong M) {W : Workflow} (range : InRange W
   placed-more = ap (place M W) (add-one k) ∙ rw (← next)
 
   pub kept-more :
-      {after : Processors} → PutIn k (state .processors) (meant-row r) after
+      {after : Processors} → PutIn (kept .intervals) (state .processors) (meant-row r) after
       → Kept W (place M W (k + 1)) (k + 1) (with-row state i (meant-row r) to-come after)
   kept-more put = rw (placed-more, row-is) (kept-on range kept more next to-come-is (takes among range (place M W k) i) (rw row-is at put))

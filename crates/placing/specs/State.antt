@@ -19,16 +19,16 @@ pub record State : Type 0 where
   pub rcb : ℕ
   pub length : ℕ
 
--- At first: four arrays that were lent, in which no task has a row.
-abbrev pub without-rows : (sits starts ends costs : List ℕ) (rb rcb : ℕ) → State
-without-rows sits starts ends costs rb rcb =
+-- At first: four arrays that were lent, in which no task has a row, and what the processors are busy with.
+abbrev pub without-rows : (sits starts ends costs : List ℕ) → Processors → (rb rcb : ℕ) → State
+without-rows sits starts ends costs processors rb rcb =
     record {
       sits = sits;
       starts = starts;
       ends = ends;
       costs = costs;
       placed = replicate 64 false;
-      processors = record { begins = replicate 64 0; ends = replicate 64 0; first = replicate 17 0 };
+      processors = processors;
       rb = rb;
       spent = 0;
       rcb = rcb;

@@ -7,6 +7,12 @@ use lib.Dec.{eqb}
 use lib.ListN.{length}
 use Rattle.laws.specs.Stores.{at}
 
+-- An array of 16 that has, for the first m processors, the larger of the clock and the minute that a function says; and the clock after them.
+pub record FromClock (clock m : ℕ) (f : ℕ → ℕ) (xs : List ℕ) : Type 0 where
+  pub size : length xs ≡ 16
+  pub below : (j : ℕ) → j < m → at xs j ≡ max clock (f j)
+  pub past : (j : ℕ) → m ≤ j → at xs j ≤ clock
+
 -- The minutes of the first m processors are moved to when an edge's data has arrived there: `here` on the processor `on`, `across` on the others.
 pub record WaitedFor (m on here across : ℕ) (before after : List ℕ) : Type 0 where
   pub size : length after ≡ length before

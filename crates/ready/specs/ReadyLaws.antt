@@ -5,17 +5,16 @@ use mathlib.Core.Bool.{Bool, true, false, cond}
 use mathlib.Core.List.{List}
 use native.Mathlib.Omega.{arith}
 use lib.Dec.{eqb}
-use lib.ListN.{length, set, replicate, length-set}
+use lib.ListN.{length, set, replicate, length-set, getD-replicate}
 use borrow.Author.Tests.{eq-eqb, ne-eqb}
 use Rattle.rules.specs.Folds.{largest}
 use Rattle.rules.specs.Workflow.{Workflow}
-use Rattle.rules.specs.Start.{arrival, ready}
+use Rattle.rules.specs.Start.{arrival, arrived}
 use Rattle.laws.specs.Folds.{largest-next, largest-further}
-use Rattle.laws.specs.Stores.{stored-below, repeated, at}
+use Rattle.laws.specs.Stores.{stored-below, repeated-at-most, at}
 use Rattle.links.specs.Links.{LastInto}
-use Rattle.laws.specs.Filled.{Filled}
 use Rattle.laws.specs.FilledLaws.{stored-past}
-use Rattle.ready.specs.Ready.{WaitedFor}
+use Rattle.ready.specs.Ready.{FromClock, WaitedFor}
 
 -- One edge waited for, on one processor after the other.
 module _ {on here across : ℕ} where
@@ -34,20 +33,26 @@ module _ {on here across : ℕ} where
         kept = λ j b. stored-past ys m x j b ∙ so-far .kept j (omega arith);
       }
 
-module _ (W : Workflow) (sits ends : ℕ → ℕ) (i : ℕ) where
+module _ (W : Workflow) (sits ends : ℕ → ℕ) (i clock : ℕ) where
   -- The minute that edge e has task i wait for on processor j; 0 where it does not lead to the task.
   unfoldable pub awaited : ℕ → ℕ → ℕ
   awaited j e = cond (eqb (W .to e) i) (arrival W sits ends j e) 0
 
-  -- An array of 16 that has when the data is ready on the first m processors as far as the edges from k on say: with what those below k say, that is all.
+  -- An array of 16 that has when the data is ready on the first m processors as far as the clock and the edges from k on say: with what those below k say, that is
+  -- all.
   pub record ReadyFrom (m k : ℕ) (xs : List ℕ) : Type 0 where
     pub size : length xs ≡ 16
-    pub with-rest : (j : ℕ) → j < m → max (at xs j) (largest k (awaited j)) ≡ ready W sits ends i j
-    pub past : (j : ℕ) → m ≤ j → at xs j ≡ 0
+    pub with-rest : (j : ℕ) → j < m → max (at xs j) (largest k (awaited j)) ≡ max clock (arrived W sits ends i j)
+    pub past : (j : ℕ) → m ≤ j → at xs j ≤ clock
 
-  pub ready-from-end : (m : ℕ) → ReadyFrom m (W .edges) (replicate 16 0)
-  unfolding ready awaited
-  ready-from-end m = record { size = refl; with-rest = λ j l. rw (repeated {A = ℕ} 16 0 j) (omega arith); past = λ j l. repeated 16 0 j }
+  pub ready-from-end : (m : ℕ) → m ≤ 16 → ReadyFrom m (W .edges) (replicate 16 clock)
+  unfolding arrived awaited
+  ready-from-end m few =
+      record {
+        size = refl;
+        with-rest = λ j l. rw (getD-replicate {A = ℕ} 16 j clock 0 (omega arith)) refl;
+        past = λ j l. repeated-at-most 16 clock j;
+      }
 
   module _ {m : ℕ} {xs : List ℕ} where
     -- Back to the last edge below k that leads to the task.
@@ -78,7 +83,7 @@ module _ (W : Workflow) (sits ends : ℕ → ℕ) (i : ℕ) where
                 largest-next e (awaited j) {x = largest e (awaited j)} {r = max (largest e (awaited j)) (awaited j e)} refl refl,
                 so-far .with-rest j l,
               );
-          past = λ j l. waited .kept j l ∙ so-far .past j l;
+          past = λ j l. omega (arith, waited .kept j l, so-far .past j l);
         }
       where
         across-or-here : (s : Bool) → cond s (ends p) (ends p + t) ≡ ends p + cond s 0 t
@@ -88,7 +93,7 @@ module _ (W : Workflow) (sits ends : ℕ → ℕ) (i : ℕ) where
         arrives : (j : ℕ) → cond (eqb (sits p) j) (ends p) (ends p + t) ≡ awaited j e
         arrives j = rw (eq-eqb (W .to e) i leads, ← from, ← transfer) (across-or-here (eqb (sits p) j))
 
-    pub ready-from-start : {k : ℕ} → k ≡ 0 → ReadyFrom m k xs → Filled m (ready W sits ends i) xs
+    pub ready-from-start : {k : ℕ} → k ≡ 0 → ReadyFrom m k xs → FromClock clock m (arrived W sits ends i) xs
     unfolding largest
     ready-from-start {k} none all =
         record { size = all .size; below = λ j l. omega (arith, ap (λ n. max (at xs j) (largest n (awaited j))) none, all .with-rest j l); past = all .past }

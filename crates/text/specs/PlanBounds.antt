@@ -1,5 +1,5 @@
 -- How large the numbers of a plan are, from what each task adds at most.
-use Prim.Native.Nat.{ℕ, _*_, _≤_, _<_}
+use Prim.Native.Nat.{ℕ, _+_, _*_, _≤_, _<_}
 use mathlib.Core.Path.{ap}
 use mathlib.Core.List.{List, [], _∷_}
 use native.Mathlib.Omega.{arith}
@@ -8,7 +8,7 @@ use Rattle.rules.specs.Workflow.{Workflow}
 use Rattle.rules.specs.Rows.{Row, Placed, row-of, spent, length-of}
 use Rattle.rules.specs.Placing.{row-on}
 use Rattle.good.specs.Ranges.{InRange}
-use Rattle.laws.specs.Bounds.{added-most, finish-most, cost-most, total-most}
+use Rattle.laws.specs.Bounds.{first-most, added-most, finish-most, cost-most, total-most}
 use Rattle.laws.specs.Folds.{sum-at-most-each}
 use Rattle.laws.specs.LatestFinish.{finish-in-length, length-in-reach}
 use Rattle.demands.specs.Demand2.Steps.{EachStep, AsTheMethod}
@@ -22,13 +22,13 @@ pub record RowBounds (r : Row) : Type 0 where
   pub cost-in : r .cost ≤ cost-most
 
 module _ (W : Workflow) (range : InRange W) where
-  length-by-steps : (rows : List Placed) → EachStep (AsTheMethod W) rows → length-of rows ≤ added-most * length rows
+  length-by-steps : (rows : List Placed) → EachStep (AsTheMethod W) rows → length-of rows ≤ first-most + added-most * length rows
   unfolding length-of row-on
   length-by-steps [] steps = omega arith
   length-by-steps (p ∷ before) (step, steps) =
       omega (
         arith,
-        length-in-reach W (range .minutes-most) (range .transfer-in) p before (length before) (p .task) (p .row .processor)
+        length-in-reach W (range .minutes-most) (range .transfer-in) (range .clock-in) (range .first-end-in) p before (length before) (p .task) (p .row .processor)
             (ap (λ (r : Row). r .finish) (step .row))
             (length-by-steps before steps),
       )

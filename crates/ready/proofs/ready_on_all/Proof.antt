@@ -11,12 +11,12 @@ use Rattle.ready.proofs.ready_on_all.Statement.{statement}
 use Rattle.ready.proofs.ready_on_all.Tie as tie
 
 abbrev Inv-loop : tie.InvT-loop
-Inv-loop s v last before sits ends task all₀ next₀ all next =
+Inv-loop s v last before sits ends task clock all₀ next₀ all next =
     let W = workflow-of s v in
-    (next ≤ v .edges) × (0 < next → W .to (next - 1) ≡ task) × ReadyFrom W (at sits) (at ends) task (v .processors) next all
+    (next ≤ v .edges) × (0 < next → W .to (next - 1) ≡ task) × ReadyFrom W (at sits) (at ends) task clock (v .processors) next all
 
 abbrev μ-loop : tie.MeasureT-loop
-μ-loop s v last before sits ends task all₀ next₀ all next = next
+μ-loop s v last before sits ends task clock all₀ next₀ all next = next
 
 mul-next : tie.Need-mul-next Inv-loop μ-loop
 unfolding workflow
@@ -42,7 +42,7 @@ unfolding workflow
 loop-holds c =
     let a = c .before .before .args in
     let last = c .before .before .pre .1 .1 .last-into (a .task) in
-    (last .within, λ some. last .leads _ (omega arith), ready-from-last _ _ _ _ last (ready-from-end _ _ _ _ _))
+    (last .within, λ some. last .leads _ (omega arith), ready-from-last _ _ _ _ _ last (ready-from-end _ _ _ _ _ _ (view-in-range (a .s .now) (a .v) (c .before .before .pre .0) .processors-in .to-high)))
 
 sub-e : tie.Need-sub-e Inv-loop μ-loop
 sub-e c = omega arith
@@ -116,12 +116,12 @@ loop-again c =
     let last = rw leads at (c .before .before .before .before .before .before .before .before .before .before .before .pre .1 .1 .before-into e (omega arith)) in (
       omega (arith, last .within),
       λ some. last .leads _ (omega arith),
-      ready-from-last _ _ _ _ last
-          (ready-from-more _ _ _ _ leads (c .before .before .before .before .before .before .from .ensures .0) (c .before .before .transfer .ensures .0) (rw place (loop .inv .2)) (c .before .wait-for .ensures)),
+      ready-from-last _ _ _ _ _ last
+          (ready-from-more _ _ _ _ _ leads (c .before .before .before .before .before .before .from .ensures .0) (c .before .before .transfer .ensures .0) (rw place (loop .inv .2)) (c .before .wait-for .ensures)),
     )
 
 returns : tie.Need-returns Inv-loop μ-loop
-returns c = ready-from-start _ _ _ _ (omega arith) (c .before .loop .inv .2)
+returns c = ready-from-start _ _ _ _ _ (omega arith) (c .before .loop .inv .2)
 
 pub ready-on-all-spec : {M : Type 1} → statement M
 ready-on-all-spec =

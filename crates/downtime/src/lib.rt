@@ -1,0 +1,28 @@
+// What the processors of a good request are busy with at first: its windows.
+ghost use Rattle.reader.specs.Meaning.{ViewOf};
+ghost use Rattle.lookup.specs.Lookup.{workflow-of};
+ghost use Rattle.busy.specs.Kept.{Keeps};
+use busy::Processors;
+use reader::View;
+
+// The windows of a good request, each among those of its processor.
+pub fn busy_at_first(s: &[u8], v: View) -> Processors
+    requires { ⌜ ViewOf (now s) v ⌝ }
+    ensures { λ r. ⌜ Keeps (workflow-of (now (s .entry)) v .busy-at-first) (v .windows) r ⌝ }
+{
+    let mut processors = Processors {
+        begins: [0u64; 128],
+        ends: [0u64; 128],
+        first: [0usize; 17],
+    };
+    let mut e = 0;
+    while e < v.windows {
+        let w = lookup::window(s, v, e);
+        let at = busy::position(&processors.begins, &processors.first, w.processor, w.begin);
+        busy::insert(&mut processors.begins, at, e, w.begin);
+        busy::insert(&mut processors.ends, at, e, w.end);
+        busy::one_more(&mut processors.first, w.processor);
+        e += 1;
+    }
+    processors
+}
