@@ -2,7 +2,7 @@
 use mathlib.Core.Path.{_≡_, refl, sym, _∙_, ap}
 use Rattle.rules.specs.Records as rules
 use Rattle.records.specs.declared.Record.{Record}
-use Rattle.records.specs.declared.Record.the-variants.{Header, Deadline, Price, Minimum, Task, Minutes, Edge, End}
+use Rattle.records.specs.declared.Record.the-variants.{Header, Deadline, Price, Minimum, Window, Task, Minutes, Edge, End}
 use Rattle.records.specs.declared.RecordAnswer.{RecordAnswer}
 use Rattle.records.specs.declared.RecordAnswer.the-variants.{Read, Refused}
 use Rattle.records.specs.Meaning.{meant-record, meant}
@@ -13,6 +13,7 @@ record-for (rules.header tasks processors budget) = Header tasks processors budg
 record-for (rules.deadline deadline) = Deadline deadline
 record-for (rules.price processor price) = Price processor price
 record-for (rules.minimum processor price minimum) = Minimum processor price minimum
+record-for (rules.window processor begin end) = Window processor begin end
 record-for (rules.task task label) = Task task label
 record-for (rules.minutes task processor minutes) = Minutes task processor minutes
 record-for (rules.edge from to transfer) = Edge from to transfer
@@ -28,6 +29,7 @@ record-again (Header tasks processors budget) = refl
 record-again (Deadline deadline) = refl
 record-again (Price processor price) = refl
 record-again (Minimum processor price minimum) = refl
+record-again (Window processor begin end) = refl
 record-again (Task task label) = refl
 record-again (Minutes task processor minutes) = refl
 record-again (Edge from to transfer) = refl

@@ -5,7 +5,7 @@ ghost use mathlib.Core.List.{[], _++_};
 ghost use lib.ListN.{length};
 ghost use Rattle.rules.specs.Fields.{byte};
 ghost use Rattle.rules.specs.Records.{first-fault, opening-by, price-checks};
-ghost use Rattle.rules.specs.Records.{header-at, deadline-at, price-at, minimum-at, processor-at, task-at, minutes-at};
+ghost use Rattle.rules.specs.Records.{header-at, deadline-at, price-at, minimum-at, processor-at, task-at, minutes-at, end-at};
 ghost use Rattle.records.specs.Meaning.{meant};
 
 // Where a record begins.
@@ -31,6 +31,11 @@ pub enum Record {
         processor: usize,
         price: u64,
         minimum: u64,
+    },
+    Window {
+        processor: usize,
+        begin: u64,
+        end: u64,
     },
     Task {
         task: usize,
@@ -228,4 +233,16 @@ pub fn read_minutes(s: &[u8], c: Cursor, due_task: usize, due_processor: usize) 
             minutes,
         },
     )
+}
+
+// `Z`.
+pub fn read_end(s: &[u8], c: Cursor) -> RecordAnswer
+    ensures { λ r. ⌜ meant r ≡ end-at (now (s .entry)) (c .at) ⌝ }
+{
+    let at = c.at;
+    let fault = fields::opening_fault(s, at, b'Z', 1);
+    if fault != 0 {
+        return RecordAnswer::Refused(fault, at);
+    }
+    RecordAnswer::Read(Cursor { at: at + 1 }, Record::End)
 }
