@@ -1,33 +1,29 @@
-// Reads one edge of a request, after the edges before it, or the end.
+// Reads one edge of a request.
 ghost use mathlib.Core.Path.{_≡_};
-ghost use Rattle.rules.specs.Records.{unless, first-fault, rising, edge-ranges, edge-at};
-ghost use Rattle.edges.specs.Meaning.{meant-edges, edge-or-end-at};
+ghost use Prim.Native.Nat.{_+_, _*_, _≤_};
+ghost use lib.ListN.{length};
+ghost use mathlib.Core.List.{[], _∷_};
+ghost use Rattle.rules.specs.Fields.{E, E-from, E-to};
+ghost use Rattle.rules.specs.Records.{unless, first-fault, follows, above, edge-ranges, edge-at};
 ghost use Rattle.records.specs.Meaning.{meant};
 use records::Cursor;
 use records::Record;
 use records::RecordAnswer;
 
-// The edges before the one that is due: how many, and the ends of the last of them.
-pub struct Edges {
-    pub count: usize,
-    pub from: usize,
-    pub to: usize,
-}
-
-// 3 where the pair (from, to) is not greater than the one before it, by from first and then to; else 0. The first edge has none before it.
-fn order_fault(before: Edges, from: usize, to: usize) -> u64
-    ensures { λ r. ⌜ r ≡ unless (rising (meant-edges before) from to) 3 ⌝ }
+// 3 where the edge at `at`, with k before it, is not above the one before it, by from first and then to; else 0. The first has none before it.
+fn order_fault(s: &[u8], at: usize, k: usize) -> u64
+    requires { ⌜ (at + 5 ≤ length (now s)) × (k * 5 ≤ at) ⌝ }
+    ensures { λ r. ⌜ r ≡ first-fault (unless (follows E (above (E-from (now (s .entry))) (E-to (now (s .entry)))) at k) 3 ∷ []) ⌝ }
 {
-    if before.count == 0 {
+    if k == 0 {
         return 0;
     }
-    if before.from < from {
-        return 0;
-    }
-    if before.from != from {
-        return 3;
-    }
-    if before.to < to {
+    let before = at - 5;
+    let before_from = fields::field(s, before, 1) as u64;
+    let before_to = fields::field(s, before, 2) as u64;
+    let from = fields::field(s, at, 1) as u64;
+    let to = fields::field(s, at, 2) as u64;
+    if fields::above(before_from, before_to, from, to) {
         return 0;
     }
     3
@@ -52,22 +48,23 @@ fn range_fault(from: usize, to: usize, transfer: u64, n: usize) -> u64
     0
 }
 
-// `E` after the edges before: at most 512, in rising order, in range.
-pub fn read_edge(s: &[u8], c: Cursor, n: usize, before: Edges) -> RecordAnswer
-    ensures { λ r. ⌜ meant r ≡ edge-at (now (s .entry)) (c .at) n (meant-edges before) ⌝ }
+// `E` with k edges right before it: at most 512, in rising order, in range.
+pub fn read_edge(s: &[u8], c: Cursor, n: usize, k: usize) -> RecordAnswer
+    requires { ⌜ k * 5 ≤ c .at ⌝ }
+    ensures { λ r. ⌜ meant r ≡ edge-at (now (s .entry)) n (c .at) k ⌝ }
 {
     let at = c.at;
     let fault = fields::opening_fault(s, at, b'E', 5);
     if fault != 0 {
         return RecordAnswer::Refused(fault, at);
     }
-    if 512 <= before.count {
+    if 512 <= k {
         return RecordAnswer::Refused(4, at);
     }
     let from = fields::field(s, at, 1);
     let to = fields::field(s, at, 2);
     let transfer = fields::two_bytes(s, at, 3);
-    let order = order_fault(before, from, to);
+    let order = order_fault(s, at, k);
     let range = range_fault(from, to, transfer, n);
     if order != 0 {
         return RecordAnswer::Refused(order, at);
@@ -76,15 +73,4 @@ pub fn read_edge(s: &[u8], c: Cursor, n: usize, before: Edges) -> RecordAnswer
         return RecordAnswer::Refused(range, at);
     }
     RecordAnswer::Read(Cursor { at: at + 5 }, Record::Edge { from, to, transfer })
-}
-
-// `Z`, or else the edge that is due.
-pub fn read_edge_or_end(s: &[u8], c: Cursor, n: usize, before: Edges) -> RecordAnswer
-    ensures { λ r. ⌜ meant r ≡ edge-or-end-at (now (s .entry)) (c .at) n (meant-edges before) ⌝ }
-{
-    let at = c.at;
-    if records::kind(s, c) == b'Z' {
-        return RecordAnswer::Read(Cursor { at: at + 1 }, Record::End);
-    }
-    read_edge(s, c, n, before)
 }
