@@ -1,8 +1,9 @@
 // What a record is read by: its opening, the numbers in its bytes, and whether they are in range.
 ghost use mathlib.Core.Path.{_≡_};
-ghost use mathlib.Core.Bool.{not};
+ghost use mathlib.Core.Bool.{not, _&&_, _||_};
 ghost use Prim.Native.Nat.{_+_, _≤_, _<_};
 ghost use lib.ListN.{length};
+ghost use lib.Dec.{ltb, eqb};
 ghost use Rattle.rules.specs.Fields.{byte, two-bytes, four-bytes};
 ghost use Rattle.rules.specs.Records.{first-fault, opening-by, within};
 
@@ -65,4 +66,17 @@ pub fn outside(low: u64, x: u64, high: u64) -> bool
         return true;
     }
     false
+}
+
+// Whether a pair of numbers is above the one before it: by the first of them, and where these are equal by the second.
+pub fn above(before_first: u64, before_second: u64, first: u64, second: u64) -> bool
+    ensures { λ r. ⌜ r ≡ (ltb «before_first» first || (eqb «before_first» first && ltb «before_second» second)) ⌝ }
+{
+    if before_first < first {
+        return true;
+    }
+    if before_first != first {
+        return false;
+    }
+    before_second < second
 }
