@@ -4,13 +4,13 @@ use Prim.Native.Nat.{ℕ}
 use mathlib.Core.List.{List}
 use denote.Enum.Declared.{tagOf}
 use types.Run.{OneOf}
-use Rattle.rules.specs.Fields.{H-tasks, H-processors, H-budget, D-deadline, E-from, E-to, E-transfer}
-use Rattle.rules.specs.Records.{read, header-at, deadline-at, Edges, edge-at, end-at}
+use Rattle.rules.specs.Fields.{H-tasks, H-processors, H-budget, D-deadline}
+use Rattle.rules.specs.Records.{read, header-at, deadline-at}
 use Rattle.rules.specs.Records as rules
 use Rattle.good.specs.Records.{record-read}
 use Rattle.records.proofs.Record.{the-type}
 use Rattle.records.specs.declared.Record.{Record}
-use Rattle.records.specs.declared.Record.the-variants.{Header, Deadline, Price, Minimum, Task, Minutes, Edge, End}
+use Rattle.records.specs.declared.Record.the-variants.{Header, Deadline, Price, Minimum, Window, Task, Minutes, Edge, End}
 use Rattle.records.specs.Meaning.{meant-record}
 
 -- The number by which the code tells a record's case.
@@ -19,16 +19,18 @@ tag (rules.header n m b) = 0
 tag (rules.deadline d) = 1
 tag (rules.price j p) = 2
 tag (rules.minimum j p l) = 3
-tag (rules.task i l) = 4
-tag (rules.minutes i j w) = 5
-tag (rules.edge i k w) = 6
-tag rules.end = 7
+tag (rules.window j b e) = 4
+tag (rules.task i l) = 5
+tag (rules.minutes i j w) = 6
+tag (rules.edge i k w) = 7
+tag rules.end = 8
 
 tag-kept : (found : Record) → tagOf the-type found ≡ tag (meant-record found)
 tag-kept (Header n m b) = refl
 tag-kept (Deadline d) = refl
 tag-kept (Price j p) = refl
 tag-kept (Minimum j p l) = refl
+tag-kept (Window j b e) = refl
 tag-kept (Task i l) = refl
 tag-kept (Minutes i j w) = refl
 tag-kept (Edge i k w) = refl
@@ -47,12 +49,3 @@ module _ (s : List ℕ) (at : ℕ) {next : ℕ} {found : rules.Record} where
   pub deadline-found : read next found ≡ deadline-at s at → found ≡ rules.deadline (D-deadline s at)
   unfolding deadline-at
   deadline-found e = record-read _ _ _ _ _ (sym e) .same
-
-  pub edge-found : (n : ℕ) (before : Edges) →
-      read next found ≡ edge-at s at n before → found ≡ rules.edge (E-from s at) (E-to s at) (E-transfer s at)
-  unfolding edge-at
-  edge-found n before e = record-read _ _ _ _ _ (sym e) .same
-
-  pub end-found : read next found ≡ end-at s at → found ≡ rules.end
-  unfolding end-at
-  end-found e = record-read _ _ _ _ _ (sym e) .same

@@ -1,4 +1,4 @@
 pub mod Laws
 pub mod Found
-pub mod EdgeLaws
+pub mod RunLaws
 pub mod RequestLaws

@@ -1,12 +1,12 @@
 -- The whole request, step by step: past a part that was read, what is left to read is the request's answer; a part's refusal is the request's.
-use mathlib.Core.Path.{_≡_, sym, _∙_, ap}
+use mathlib.Core.Path.{_≡_, refl, sym, _∙_, ap}
 use Prim.Native.Nat.{ℕ, _<_, _≤_}
 use mathlib.Core.List.{List}
 use lib.ListN.{length}
 use borrow.Author.Tests.{lt-ltb, le-ltb}
 use Rattle.rules.specs.Fields.{H-tasks, H-processors, H-budget}
-use Rattle.rules.specs.Records.{Read, read, stopped, header, header-at}
-use Rattle.rules.specs.Reading.{then, Deadline, deadline-part, prices-part, tasks-part, edges-part}
+use Rattle.rules.specs.Records.{Record, Read, read, stopped, header, header-at, end-at}
+use Rattle.rules.specs.Reading.{then, Deadline, deadline-part, prices-part, windows-part, tasks-part, edges-part}
 use Rattle.rules.specs.Reading.{Request, nothing-after, read-request}
 use Rattle.good.specs.ReadIsGood.{read-to-the-end}
 use Rattle.records.specs.declared.Cursor.{Cursor}
@@ -14,7 +14,7 @@ use Rattle.records.specs.declared.Record as code
 use Rattle.records.specs.declared.Record.the-variants.{Header}
 use Rattle.records.specs.declared.RecordAnswer.{RecordAnswer}
 use Rattle.records.specs.declared.RecordAnswer.the-variants as answer
-use Rattle.records.specs.Meaning.{meant}
+use Rattle.records.specs.Meaning.{meant-record, meant}
 use Rattle.reader.specs.declared.Passed.{Passed}
 use Rattle.reader.specs.declared.Passed.the-variants as passed
 use Rattle.reader.specs.declared.Reading.{Reading}
@@ -28,10 +28,10 @@ pub record Headed : Type 0 where
   pub processors : ℕ
   pub budget : ℕ
 
--- What is left to read past the edges, and from each part on, with what the parts before it gave.
+-- What is left to read past the end, and from each part on, with what the parts before it gave.
 module _ (h : Headed) where
-  abbrev pub past-edges : Deadline → (prices-at tasks-at edges-at end edges : ℕ) → Read Request
-  past-edges d prices-at tasks-at edges-at end edges =
+  abbrev pub past-end : Deadline → (prices-at windows-at windows tasks-at edges-at edges end : ℕ) → Read Request
+  past-end d prices-at windows-at windows tasks-at edges-at edges end =
       nothing-after (h .input) end
       (record {
         tasks = h .tasks;
@@ -39,30 +39,52 @@ module _ (h : Headed) where
         budget = h .budget;
         deadline = d;
         prices-at = prices-at;
+        windows-at = windows-at;
+        windows = windows;
         tasks-at = tasks-at;
         edges-at = edges-at;
         edges = edges;
       })
 
-  abbrev pub from-edges : Deadline → (prices-at tasks-at edges-at : ℕ) → Read Request
-  from-edges d prices-at tasks-at edges-at =
-      then (edges-part (h .input) (h .tasks) edges-at (record { count = 0; from = 0; to = 0 }) 513) (past-edges d prices-at tasks-at edges-at)
+  abbrev pub from-end : Deadline → (prices-at windows-at windows tasks-at edges-at edges at : ℕ) → Read Request
+  from-end d prices-at windows-at windows tasks-at edges-at edges at =
+      then (end-at (h .input) at) (λ end _. past-end d prices-at windows-at windows tasks-at edges-at edges end)
 
-  abbrev pub from-tasks : Deadline → (prices-at tasks-at : ℕ) → Read Request
-  from-tasks d prices-at tasks-at =
-      then (tasks-part (h .input) (h .tasks) (h .processors) tasks-at) (λ edges-at _. from-edges d prices-at tasks-at edges-at)
+  abbrev pub from-edges : Deadline → (prices-at windows-at windows tasks-at edges-at : ℕ) → Read Request
+  from-edges d prices-at windows-at windows tasks-at edges-at =
+      then (edges-part (h .input) (h .tasks) edges-at) (λ at edges. from-end d prices-at windows-at windows tasks-at edges-at edges at)
+
+  abbrev pub from-tasks : Deadline → (prices-at windows-at windows tasks-at : ℕ) → Read Request
+  from-tasks d prices-at windows-at windows tasks-at =
+      then (tasks-part (h .input) (h .tasks) (h .processors) tasks-at) (λ edges-at _. from-edges d prices-at windows-at windows tasks-at edges-at)
+
+  abbrev pub from-windows : Deadline → (prices-at windows-at : ℕ) → Read Request
+  from-windows d prices-at windows-at =
+      then (windows-part (h .input) (h .processors) windows-at) (λ tasks-at windows. from-tasks d prices-at windows-at windows tasks-at)
 
   abbrev pub from-prices : Deadline → (prices-at : ℕ) → Read Request
-  from-prices d prices-at = then (prices-part (h .input) (h .processors) prices-at) (λ tasks-at _. from-tasks d prices-at tasks-at)
+  from-prices d prices-at = then (prices-part (h .input) (h .processors) prices-at) (λ windows-at _. from-windows d prices-at windows-at)
 
   abbrev pub from-deadline : (at : ℕ) → Read Request
   from-deadline at = then (deadline-part (h .input) at) (λ prices-at d. from-prices d prices-at)
 
+-- A record that is due by itself, the header or the end.
+module _ (s : List ℕ) {due : Read Record} (step : ℕ → Record → Read Request) (left : read-request s ≡ then due step)
+    (a : RecordAnswer) (answered : meant a ≡ due) where
+  pub record-passed : {next : Cursor} {found : code.Record} → a ≡ answer.Read next found → read-request s ≡ step (next .at) (meant-record found)
+  unfolding then
+  record-passed is = rw (left, ← answered, is)
+
+  pub record-refused : {r : Reading} {number place : ℕ} → a ≡ answer.Refused number place → r ≡ refusal-of (past a) →
+      meant-reading s r ≡ read-request s
+  unfolding then
+  record-refused is same = rw (left, same, ← answered, is)
+
 module _ (s : List ℕ) (a : RecordAnswer) (headed : meant a ≡ header-at s 0) where
   pub header-refused : {r : Reading} {number place : ℕ} → a ≡ answer.Refused number place → r ≡ refusal-of (past a) →
       meant-reading s r ≡ read-request s
-  unfolding read-request then
-  header-refused is same = rw (same, ← headed, is)
+  unfolding read-request
+  header-refused = record-refused s _ refl a headed
 
   pub header-read : {next : Cursor} {found : code.Record} {n m b : ℕ} → a ≡ answer.Read next found → found ≡ Header n m b →
       read-request s ≡ from-deadline (record { input = s; tasks = n; processors = m; budget = b }) (next .at)

@@ -1,9 +1,8 @@
 // Reads a whole request: its records in order, each refusal handed straight up, and nothing after the last.
 ghost use mathlib.Core.Path.{_≡_};
 ghost use Rattle.rules.specs.Records.{minutes-at};
-ghost use Rattle.rules.specs.Reading.{each, deadline-part, prices-part, task-part, tasks-part, edges-part, read-request};
+ghost use Rattle.rules.specs.Reading.{each, deadline-part, prices-part, windows-part, task-part, tasks-part, edges-part, read-request};
 ghost use Rattle.reader.specs.Meaning.{meant-part, meant-deadline, meant-reading, past, refusal-of};
-use edges::Edges;
 use records::Cursor;
 use records::Record;
 use records::RecordAnswer;
@@ -81,6 +80,42 @@ fn read_prices(s: &[u8], c: Cursor, m: usize) -> Passed
     Passed::To(next)
 }
 
+// Records of one kind, as many as stand there: how many. One more than the limit is refused, so that no more are looked for (`windows-enough` and
+// `edges-enough`, crate `good`).
+pub struct RunPart {
+    pub passed: Passed,
+    pub count: usize,
+}
+
+// Windows, each after those before it.
+fn read_windows(s: &[u8], c: Cursor, m: usize) -> RunPart
+    ensures { λ r. ⌜ meant-part (r .passed) (r .count) ≡ windows-part (now (s .entry)) m (c .at) ⌝ }
+{
+    let mut next = c;
+    let mut k = 0;
+    while k < 65 {
+        if records::kind(s, next) != b'M' {
+            return RunPart {
+                passed: Passed::To(next),
+                count: k,
+            };
+        }
+        let answer = windows::read_window(s, next, m, k);
+        let RecordAnswer::Read(after, _) = answer else {
+            return RunPart {
+                passed: handed_up(answer),
+                count: 0,
+            };
+        };
+        next = after;
+        k += 1;
+    }
+    RunPart {
+        passed: Passed::To(next),
+        count: k,
+    }
+}
+
 // The minutes of a task on processors 0 to m - 1.
 fn read_row(s: &[u8], c: Cursor, task: usize, m: usize) -> Passed
     ensures { λ r. ⌜ meant-part r tt ≡ each (λ at j. minutes-at (now (s .entry)) at task j) (c .at) m ⌝ }
@@ -126,57 +161,36 @@ fn read_tasks(s: &[u8], c: Cursor, n: usize, m: usize) -> Passed
     Passed::To(next)
 }
 
-pub struct EdgesPart {
-    pub passed: Passed,
-    pub count: usize,
-}
-
-// Edges in rising order, at most 512, then `Z`: how many there are.
-fn read_edges(s: &[u8], c: Cursor, n: usize) -> EdgesPart
-    ensures { λ r. ⌜ meant-part (r .passed) (r .count) ≡ edges-part (now (s .entry)) n (c .at) (record { count = 0; from = 0; to = 0 }) 513 ⌝ }
+// Edges, each after those before it.
+fn read_edges(s: &[u8], c: Cursor, n: usize) -> RunPart
+    ensures { λ r. ⌜ meant-part (r .passed) (r .count) ≡ edges-part (now (s .entry)) n (c .at) ⌝ }
 {
     let mut next = c;
-    let mut before = Edges {
-        count: 0,
-        from: 0,
-        to: 0,
-    };
-    let mut left: usize = 513;
-    while 0 < left {
-        let answer = edges::read_edge_or_end(s, next, n, before);
-        let RecordAnswer::Read(after, found) = answer else {
-            return EdgesPart {
+    let mut k = 0;
+    while k < 513 {
+        if records::kind(s, next) != b'E' {
+            return RunPart {
+                passed: Passed::To(next),
+                count: k,
+            };
+        }
+        let answer = edges::read_edge(s, next, n, k);
+        let RecordAnswer::Read(after, _) = answer else {
+            return RunPart {
                 passed: handed_up(answer),
                 count: 0,
             };
         };
-        let Record::Edge {
-            from,
-            to,
-            transfer: _,
-        } = found
-        else {
-            return EdgesPart {
-                passed: Passed::To(after),
-                count: before.count,
-            };
-        };
         next = after;
-        before = Edges {
-            count: before.count + 1,
-            from,
-            to,
-        };
-        left -= 1;
+        k += 1;
     }
-    // Not reached: of 513 records one is `Z` or refused (`edges-enough`, crate `good`).
-    EdgesPart {
-        passed: Passed::Refused(4, next.at),
-        count: 0,
+    RunPart {
+        passed: Passed::To(next),
+        count: k,
     }
 }
 
-// A good request: its numbers, and where its parts begin. Minutes and edges are read where they stand; one walks over the processor records, each as
+// A good request: its numbers, and where its parts begin. Windows, minutes and edges are read where they stand; one walks over the processor records, each as
 // long as its kind.
 pub struct View {
     pub tasks: usize,
@@ -184,6 +198,8 @@ pub struct View {
     pub budget: u64,
     pub deadline: Deadline,
     pub prices_at: usize,
+    pub windows_at: usize,
+    pub windows: usize,
     pub tasks_at: usize,
     pub edges_at: usize,
     pub edges: usize,
@@ -228,17 +244,26 @@ pub fn read_request(s: &[u8]) -> Reading
         return refused(dated);
     };
     let priced = read_prices(s, prices, processors);
-    let Passed::To(first) = priced else {
+    let Passed::To(windows) = priced else {
         return refused(priced);
+    };
+    let upkeep = read_windows(s, windows, processors);
+    let maintained = upkeep.passed;
+    let Passed::To(first) = maintained else {
+        return refused(maintained);
     };
     let worked = read_tasks(s, first, tasks, processors);
     let Passed::To(edges) = worked else {
         return refused(worked);
     };
     let linked = read_edges(s, edges, tasks);
-    let closed = linked.passed;
-    let Passed::To(end) = closed else {
-        return refused(closed);
+    let joined = linked.passed;
+    let Passed::To(last) = joined else {
+        return refused(joined);
+    };
+    let closed = records::read_end(s, last);
+    let RecordAnswer::Read(end, _) = closed else {
+        return refused(handed_up(closed));
     };
     if end.at < s.len() {
         return Reading::Refused(6, end.at);
@@ -249,6 +274,8 @@ pub fn read_request(s: &[u8]) -> Reading
         budget,
         deadline,
         prices_at: prices.at,
+        windows_at: windows.at,
+        windows: upkeep.count,
         tasks_at: first.at,
         edges_at: edges.at,
         edges: linked.count,

@@ -51,7 +51,7 @@ returns-3 c =
     let a = c .before .before .before .before .before .before .before .before .before .args in
     let read-deadline = c .before .before .before .before .before .read-deadline in
     let answer = c .before .before .before .answer in
-    absurd (miss (0 ∷ 2 ∷ 3 ∷ 4 ∷ 5 ∷ 6 ∷ 7 ∷ []) 1 tt (due-among (0 ∷ 2 ∷ 3 ∷ 4 ∷ 5 ∷ 6 ∷ 7 ∷ []) (answer .given .0 .1 .0)
+    absurd (miss (0 ∷ 2 ∷ 3 ∷ 4 ∷ 5 ∷ 6 ∷ 7 ∷ 8 ∷ []) 1 tt (due-among (0 ∷ 2 ∷ 3 ∷ 4 ∷ 5 ∷ 6 ∷ 7 ∷ 8 ∷ []) (answer .given .0 .1 .0)
     (deadline-found (a .s .now) (a .c .at) (sym (ap meant (answer .given .1)) ∙ read-deadline .ensures)) (c .before .match2 .keys2)))
 
 returns-4 : tie.Need-returns-4
