@@ -2,7 +2,7 @@
 use Prim.Native.Nat.{ℕ, zero, suc, _+_, _-_, _≤_, _<_}
 use mathlib.Core.Path.{_≡_, refl, subst}
 use mathlib.Core.List.{List, [], List·Memᴰ}
-use native.Mathlib.Decide.{decLe}
+use native.Mathlib.Decide.{decLe, decLt}
 use native.Mathlib.Omega.{arith}
 use lib.ListN.{replicate, List·getD-eq-default}
 use Rattle.rules.specs.Folds.{listing}
@@ -45,6 +45,16 @@ module _ {begins ends first : List ℕ} (order : InOrder begins ends first) wher
       go : Dec (i ≤ 16) → at first i ≤ room-most
       go (yes l) = omega (arith, first-in-order i 16 l (omega arith), order .few)
       go (no l) = rw (List·getD-eq-default first 0 {n = i} (omega (arith, order .first-size))) (omega arith)
+
+  -- Only the 16 are busy.
+  pub kept-below : {j : ℕ} {v : Interval} → List·Memᴰ v (kept-busy begins ends first j) → j < 16
+  kept-below {j} m = go (decLt j 16)
+    where
+      go : Dec (j < 16) → j < 16
+      go (yes l) = l
+      go (no past) =
+          let (k, from, to, e) = kept-from begins ends first j m in
+          absurd (omega (arith, List·getD-eq-default first 0 {n = j + 1} (omega (arith, order .first-size))))
 
   pub kept-has-minutes : {j : ℕ} → j < 16 → {v : Interval} → List·Memᴰ v (kept-busy begins ends first j) → v .begin < v .end
   kept-has-minutes {j} below {v} m =

@@ -17,7 +17,7 @@ pub fn busy_at_first(s: &[u8], v: View) -> Processors
     };
     let mut e = 0;
     while e < v.windows {
-        let w = lookup::window(s, v, e);
+        let w = lookup::window_of(s, v, e);
         let at = busy::position(&processors.begins, &processors.first, w.processor, w.begin);
         busy::insert(&mut processors.begins, at, e, w.begin);
         busy::insert(&mut processors.ends, at, e, w.end);

@@ -19,7 +19,7 @@ pub struct Window {
 }
 
 // A window of a good request.
-pub fn window(s: &[u8], v: View, window: usize) -> Window
+pub fn window_of(s: &[u8], v: View, window: usize) -> Window
     requires { ⌜ ViewOf (now s) v ⌝ }
     requires { ⌜ window < v .windows ⌝ }
     ensures { λ r. ⌜ (r .processor ≡ M-processor (now (s .entry)) (window-place (meant-view v) window)) × (r .begin ≡ M-begin (now (s .entry)) (window-place (meant-view v) window)) × (r .end ≡ M-end (now (s .entry)) (window-place (meant-view v) window)) ⌝ }

@@ -5,4 +5,5 @@ pub mod Arrays
 pub mod KeptHand
 pub mod KeptLaws
 pub mod KeptMore
+pub mod Begins
 pub mod Settled

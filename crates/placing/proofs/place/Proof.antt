@@ -11,18 +11,20 @@ use Rattle.rules.specs.Placing.{RCB, place}
 use Rattle.good.specs.Ranges.{InRange}
 use Rattle.lookup.specs.Lookup.{workflow-of}
 use Rattle.lookup.specs.Views.{view-in-range}
+use Rattle.laws.specs.Begun.{begun}
 use Rattle.laws.specs.Method.{HBCS-chooses-among}
 use Rattle.links.specs.LinksLaws.{linked-first}
 use Rattle.costs.specs.CostLaws.{lowest-filled}
 use Rattle.busy.specs.declared.Processors.{Processors}
-use Rattle.busy.specs.Kept.{InOrder}
-use Rattle.busy.specs.KeptLaws.{first-at-most-64}
+use Rattle.busy.specs.Kept.{kept-by, InOrder}
+use Rattle.busy.specs.KeptLaws.{first-at-most}
 use Rattle.busy.specs.PlaceLaws.{place-in-reach}
 use Rattle.placing.specs.State.{State, meant-row, with-row}
 use Rattle.placing.specs.Kept.{Kept}
 use Rattle.placing.specs.KeptHand.{ready-within}
 use Rattle.placing.specs.KeptLaws.{kept-first, ends-within, busy-within, rb-within, rcb-within, next-kept, next-free, rcb-less}
 use Rattle.placing.specs.KeptMore.{PutIn, processor, kept-more}
+use Rattle.placing.specs.Begins.{begun-in-range, ranks-begun}
 use borrow.Author.Needs.{needs}
 use native.Mathlib.Omega.{arith}
 use Rattle.placing.proofs.place.Statement.{statement}
@@ -45,13 +47,13 @@ kept-in sits starts ends costs placed processors rb spent rcb length =
     }
 
 abbrev Inv-loop : tie.InvT-loop
-Inv-loop s v prices minimums ranks cheapest sits₀ starts₀ ends₀ costs₀ last before placed₀ processors₀ rb₀ spent₀ rcb₀ length₀ k₀
+Inv-loop s v prices minimums ranks cheapest outset clock sits₀ starts₀ ends₀ costs₀ last before placed₀ processors₀ rb₀ spent₀ rcb₀ length₀ k₀
     sits starts ends costs placed processors rb spent rcb length k =
-    let W = workflow-of s v in
+    let W = begun (kept-by outset) clock (workflow-of s v) in
     (k ≤ v .tasks) × Kept W (place HBCS W k) k (kept-in sits starts ends costs placed processors rb spent rcb length)
 
 abbrev μ-loop : tie.MeasureT-loop
-μ-loop s v prices minimums ranks cheapest sits₀ starts₀ ends₀ costs₀ last before placed₀ processors₀ rb₀ spent₀ rcb₀ length₀ k₀
+μ-loop s v prices minimums ranks cheapest outset clock sits₀ starts₀ ends₀ costs₀ last before placed₀ processors₀ rb₀ spent₀ rcb₀ length₀ k₀
     sits starts ends costs placed processors rb spent rcb length k =
     v .tasks - k
 
@@ -59,13 +61,13 @@ link-all-requires : tie.Need-link-all-requires Inv-loop μ-loop
 link-all-requires c κs = (c .before .before .before .pre .0, linked-first _)
 
 loop-holds : tie.Need-loop-holds Inv-loop μ-loop
-unfolding workflow place
+unfolding workflow begun place
 loop-holds c =
     let pre = c .before .before .before .before .pre in
     (omega arith, kept-first _ (pre .1 .1) refl (pre .1 .0 .1))
 
 next-task-requires : tie.Need-next-task-requires Inv-loop μ-loop
-unfolding workflow
+unfolding workflow begun
 next-task-requires c κs =
     let start = c .before .before .before .before .before .before .before .before in
     let range = view-in-range (start .args .s .now) (start .args .v) (start .pre .0) in
@@ -73,7 +75,7 @@ next-task-requires c κs =
 
 -- In a turn: the workflow, which is in range, the rows so far, and that a task is left.
 abbrev flow : tie.After-next-task Inv-loop μ-loop → Workflow
-flow c = let a = c .before .before .before .before .before .before .before .before .before .args in workflow-of (a .s .now) (a .v)
+flow c = let a = c .before .before .before .before .before .before .before .before .before .args in begun (kept-by (a .outset)) (a .clock) (workflow-of (a .s .now) (a .v))
 
 abbrev rows-so-far : tie.After-next-task Inv-loop μ-loop → List Placed
 rows-so-far c = place HBCS (flow c) (c .before .before .before .before .loop .k)
@@ -84,12 +86,12 @@ in-range c =
     view-in-range (start .args .s .now) (start .args .v) (start .pre .0)
 
 left : (c : tie.After-next-task Inv-loop μ-loop) → c .before .before .before .before .loop .k < flow c .tasks
-unfolding workflow
+unfolding workflow begun
 left c = c .before .before .if1 .taken
 
 -- The task in hand is the rules' next.
 next-is : (c : tie.After-next-task Inv-loop μ-loop) → c .next-task .result ≡ next-task (flow c) (is-placed (rows-so-far c))
-unfolding workflow
+unfolding workflow begun
 next-is c =
     let pre = c .before .before .before .before .before .before .before .before .before .pre in
     next-kept (in-range c) (c .before .before .before .before .loop .inv .1) (left c) (pre .1 .0 .0) (c .next-task .ensures)
@@ -105,7 +107,7 @@ rcb-is : (c : tie.After-lowest-of Inv-loop μ-loop) →
     let rcb = c .before .before .before .before .before .before .before .loop .rcb in
     let turn = c .before .before .before in
     (c .lowest-of .result ≤ rcb) × (rcb - c .lowest-of .result ≡ RCB (flow turn) (rows-so-far turn) (turn .next-task .result))
-unfolding workflow
+unfolding workflow begun
 rcb-is c =
     let turn = c .before .before .before in
     let lowest-is = c .lowest-of .ensures ∙ lowest-filled _ (in-range turn) _ (c .before .before .cost-on-all .ensures) in
@@ -117,7 +119,7 @@ turn-of c = c .before .before .before .before .before .before .before .before .b
 
 -- Its processor is one of the 16.
 processor-below : (c : tie.After-row-for Inv-loop μ-loop) → c .row-for .result .processor < 16
-unfolding workflow
+unfolding workflow begun
 processor-below c =
     let turn = turn-of c in
     let kept = turn .before .before .before .before .loop .inv .1 in
@@ -134,7 +136,7 @@ turned : (c : tie.After-row-for Inv-loop μ-loop) →
     (after : Processors) → PutIn (loop .k) (loop .processors) (meant-row row) after
     → Kept (flow turn) (place HBCS (flow turn) (loop .k + 1)) (loop .k + 1)
     (with-row state (turn .next-task .result) (meant-row row) (loop .rcb - c .before .before .before .before .before .before .before .before .before .before .before .before .lowest-of .result) after)
-unfolding workflow
+unfolding workflow begun
 turned c after put =
     let turn = turn-of c in
     let kept = turn .before .before .before .before .loop .inv .1 in
@@ -143,13 +145,13 @@ turned c after put =
     kept-more HBCS-chooses-among (in-range turn) kept (left turn) (next-is turn) all-ready to-come (c .row-for .ensures) put
 
 cost-on-all-requires : tie.Need-cost-on-all-requires Inv-loop μ-loop
-unfolding workflow
+unfolding workflow begun
 cost-on-all-requires c κs =
     let start = c .before .before .before .before .before .before .before .before .before in
     (start .pre .0, (start .pre .1 .0 .2, task-below c))
 
 lowest-of-requires : tie.Need-lowest-of-requires Inv-loop μ-loop
-unfolding workflow
+unfolding workflow begun
 lowest-of-requires c κs =
     let processors-in = in-range (c .before .before) .processors-in in
     (processors-in .from-low, processors-in .to-high)
@@ -158,14 +160,14 @@ sub-rcb : tie.Need-sub-rcb Inv-loop μ-loop
 sub-rcb c = rcb-is c .0
 
 ready-on-all-requires : tie.Need-ready-on-all-requires Inv-loop μ-loop
-unfolding workflow
+unfolding workflow begun
 ready-on-all-requires c κs =
     let turn = c .before .before .before .before .before .before .before in
     let kept = turn .before .before .before .before .loop .inv .1 in
     (turn .before .before .before .before .before .before .before .before .before .pre .0, (task-below turn, turn .before .before .before .before .before .link-all .ensures, ends-within (in-range turn) kept (left turn)))
 
 row-for-requires : tie.Need-row-for-requires Inv-loop μ-loop
-unfolding workflow
+unfolding workflow begun
 row-for-requires c κs =
     let turn = c .before .before .before .before .before .before .before .before .before .before .before .before .before .before in
     let kept = turn .before .before .before .before .loop .inv .1 in
@@ -245,7 +247,7 @@ position-requires : tie.Need-position-requires Inv-loop μ-loop
 position-requires c κs =
     let order = kept-in-order (c .before .before .before) in
     let below = processor-below (c .before .before .before) in
-    (below, order .first-rises _ below, first-at-most-64 order)
+    (below, order .first-rises _ below, first-at-most order)
 
 insert-requires : tie.Need-insert-requires Inv-loop μ-loop
 insert-requires c κs =
@@ -260,7 +262,7 @@ insert-requires-2 c κs =
 one-more-requires : tie.Need-one-more-requires Inv-loop μ-loop
 one-more-requires c κs =
     let row = c .before .before .before .before .before .before .before .before .before in
-    (kept-in-order row .first-size, processor-below row, first-at-most-64 (kept-in-order row))
+    (kept-in-order row .first-size, processor-below row, first-at-most (kept-in-order row))
 
 less-requires : tie.Need-less-requires Inv-loop μ-loop
 less-requires c κs = search needs
@@ -280,11 +282,11 @@ add-k c =
     omega (arith, left turn, in-range turn .tasks-in)
 
 loop-less : tie.Need-loop-less Inv-loop μ-loop
-unfolding workflow
+unfolding workflow begun
 loop-less c = omega (arith, left (turn-of (c .before .before .before .before .before .before .before .before .before .before .before .before .before)))
 
 loop-again : tie.Need-loop-again Inv-loop μ-loop
-unfolding workflow
+unfolding workflow begun
 loop-again c =
     let row = c .before .before .before .before .before .before .before .before .before .before .before .before .before in
     (omega (arith, left (turn-of row)), rw (c .larger .ensures, c .before .before .less .ensures) (turned row _ (put (c .before .before .before))))
@@ -293,7 +295,7 @@ less-requires-2 : tie.Need-less-requires-2 Inv-loop μ-loop
 less-requires-2 c κs = search needs
 
 returns : tie.Need-returns Inv-loop μ-loop
-unfolding workflow
+unfolding workflow begun
 returns c =
     let loop = c .before .before .before .loop in
     let v = c .before .before .before .before .before .before .before .before .args .v in
