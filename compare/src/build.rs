@@ -18,6 +18,10 @@ pub fn q(processor: u8, price: u8, minimum: u16) -> Vec<u8> {
     [&[b'Q', processor, price][..], &minimum.to_le_bytes()].concat()
 }
 
+pub fn m(processor: u8, begin: u32, end: u32) -> Vec<u8> {
+    [&[b'M', processor][..], &begin.to_le_bytes(), &end.to_le_bytes()].concat()
+}
+
 /// The label is filled up with spaces, or cut, to 8 bytes.
 pub fn t(task: u8, label: impl AsRef<[u8]>) -> Vec<u8> {
     let mut record = [&[b'T', task], label.as_ref()].concat();
@@ -47,6 +51,8 @@ pub struct Draft {
     /// A processor that has a minimum here is a `Q`; any other, also one past
     /// the end of this list, is a `P`.
     pub minimums: Vec<Option<u16>>,
+    /// Processor, begin, end.
+    pub windows: Vec<(u8, u32, u32)>,
     /// Label, and minutes on each processor.
     pub tasks: Vec<(String, Vec<u16>)>,
     /// From, to, transfer minutes.
@@ -54,7 +60,7 @@ pub struct Draft {
 }
 
 impl Draft {
-    /// Tasks with the labels t0, t1, ... and no deadline; every processor is a `P`.
+    /// Tasks with the labels t0, t1, ..., no deadline and no window; every processor is a `P`.
     pub fn new(budget: u32, prices: &[u8], minutes: &[&[u16]], edges: &[(u8, u8, u16)]) -> Draft {
         let task = |(i, of_task): (usize, &&[u16])| (format!("t{i}"), of_task.to_vec());
         Draft {
@@ -62,6 +68,7 @@ impl Draft {
             deadline: None,
             prices: prices.to_vec(),
             minimums: vec![None; prices.len()],
+            windows: Vec::new(),
             tasks: minutes.iter().enumerate().map(task).collect(),
             edges: edges.to_vec(),
         }
@@ -70,6 +77,11 @@ impl Draft {
     /// The same with these for minimums.
     pub fn with_minimums(self, minimums: &[Option<u16>]) -> Draft {
         Draft { minimums: minimums.to_vec(), ..self }
+    }
+
+    /// The same with these for windows.
+    pub fn with_windows(self, windows: &[(u8, u32, u32)]) -> Draft {
+        Draft { windows: windows.to_vec(), ..self }
     }
 
     /// The minimum of processor j, if it is a `Q`.
@@ -85,6 +97,7 @@ impl Draft {
             None => p(j, price),
         };
         records.extend((0..=255).zip(&self.prices).map(processor));
+        records.extend(self.windows.iter().map(|&(j, begin, end)| m(j, begin, end)));
         for (i, (label, minutes)) in (0..=255).zip(&self.tasks) {
             records.push(t(i, label));
             records.extend((0..=255).zip(minutes).map(|(j, &time)| w(i, j, time)));
@@ -98,20 +111,26 @@ impl Draft {
         self.records().concat()
     }
 
-    /// All times multiplied by a, prices by b, minimums and the budget by both.
+    /// All times and windows multiplied by a, prices by b, minimums and the budget by both.
     pub fn times(&self, a: u8, b: u8) -> Draft {
         let longer = |time: u16| time * u16::from(a);
         // What two bytes cannot hold becomes the largest that they can, which
         // is out of range too.
         let more = |minimum: u16| minimum.saturating_mul(u16::from(a) * u16::from(b));
+        let later = |minute: u32| minute * u32::from(a);
         let task = |(label, minutes): &(String, Vec<u16>)| {
             (label.clone(), minutes.iter().map(|&time| longer(time)).collect())
         };
         Draft {
             budget: self.budget * u32::from(a) * u32::from(b),
-            deadline: self.deadline.map(|deadline| deadline * u32::from(a)),
+            deadline: self.deadline.map(later),
             prices: self.prices.iter().map(|price| price * b).collect(),
             minimums: self.minimums.iter().map(|minimum| minimum.map(more)).collect(),
+            windows: self
+                .windows
+                .iter()
+                .map(|&(j, from, to)| (j, later(from), later(to)))
+                .collect(),
             tasks: self.tasks.iter().map(task).collect(),
             edges: self.edges.iter().map(|&(from, to, c)| (from, to, longer(c))).collect(),
         }

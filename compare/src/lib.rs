@@ -12,7 +12,7 @@ pub mod shapes;
 
 pub use plan::{ranks, schedule};
 pub use print::text;
-pub use request::{read, Edge, Refusal, Workflow, MOST_BYTES};
+pub use request::{read, Edge, Refusal, Window, Workflow, MOST_BYTES};
 
 /// One plan row; row i speaks of task i.
 #[derive(Clone, Copy, Debug, Default, PartialEq, Eq)]

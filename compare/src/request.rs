@@ -4,8 +4,11 @@ use std::ops::Range;
 
 const EDGE_LIMIT: usize = 512;
 
-/// "So a good request, one not refused with 1 to 6, has at most 8,413 bytes."
-pub const MOST_BYTES: usize = 8_413;
+/// "At most four windows of a processor."
+const WINDOW_LIMIT: usize = 4;
+
+/// "So a good request, one not refused with 1 to 6, has at most 9,053 bytes."
+pub const MOST_BYTES: usize = 9_053;
 
 /// "The list has sixty-four bytes."
 pub(crate) const LIST: &[u8; 64] =
@@ -36,6 +39,14 @@ pub struct Edge {
     pub transfer: u32,
 }
 
+/// "The processor is down from begin on, up to end."
+#[derive(Clone, Copy, Debug, PartialEq, Eq)]
+pub struct Window {
+    pub processor: usize,
+    pub begin: u32,
+    pub end: u32,
+}
+
 /// A request that passed reading.
 #[derive(Clone, Debug, PartialEq, Eq)]
 pub struct Workflow {
@@ -49,6 +60,8 @@ pub struct Workflow {
     pub prices: Vec<u32>,
     /// The least amount that each processor bills for a task; "a `P` has minimum 0".
     pub minimums: Vec<u32>,
+    /// By rising (processor, begin), as the request gives them.
+    pub windows: Vec<Window>,
     /// Task i on processor j stands at `i * processors + j`.
     pub minutes: Vec<u32>,
     /// Where each label, without its spaces, stands in the request.
@@ -94,6 +107,25 @@ pub fn read(request: &[u8]) -> Result<Workflow, Refusal> {
         minimums.push(minimum.into());
     }
 
+    let mut windows: Vec<Window> = Vec::new();
+    while records.kind() == Some(b'M') {
+        let (at, &[processor, b0, b1, b2, b3, e0, e1, e2, e3]) = records.take::<9>(b'M')?;
+        let window = Window {
+            processor: processor.into(),
+            begin: u32::from_le_bytes([b0, b1, b2, b3]),
+            end: u32::from_le_bytes([e0, e1, e2, e3]),
+        };
+        // "Of edges and windows 3 is tested on the bytes as they stand, before any range."
+        require(windows.last().is_none_or(|last| last.may_precede(&window)), 3, at)?;
+        require(processor < m, 4, at)?;
+        require(window.begin < window.end, 4, at)?;
+        require(window.end <= 20_000, 4, at)?;
+        // "A processor's fifth window comes after its fields."
+        let there = windows.iter().filter(|before| before.processor == window.processor).count();
+        require(there < WINDOW_LIMIT, 4, at)?;
+        windows.push(window);
+    }
+
     let mut labels = Vec::with_capacity(n.into());
     let mut minutes = Vec::with_capacity(usize::from(n) * usize::from(m));
     for i in 0..n {
@@ -134,10 +166,20 @@ pub fn read(request: &[u8]) -> Result<Workflow, Refusal> {
         deadline,
         prices,
         minimums,
+        windows,
         minutes,
         labels,
         edges,
     })
+}
+
+impl Window {
+    /// "Rising by processor, then begin, and none that begins before the same
+    /// processor's previous window ends."
+    fn may_precede(&self, next: &Window) -> bool {
+        let rising = (self.processor, self.begin) < (next.processor, next.begin);
+        rising && (self.processor != next.processor || self.end <= next.begin)
+    }
 }
 
 /// The request and the offset of the record due next.

@@ -1,17 +1,18 @@
-//! The cases of document 01 and of A4 of document 02, and both edges of each
-//! range. Offsets in S(28): H 0, P 7 10, T W W 13 23 28, 33 43 48, 53 63 68,
+//! The cases of document 01 and of A4 and A5 of document 02, and both edges of
+//! each range. Offsets in S(28): H 0, P 7 10, T W W 13 23 28, 33 43 48, 53 63 68,
 //! E 73 78, Z 83, end 84.
 
 use std::io::Write;
 use std::process::{Command, Stdio};
 
-use compare::build::{d, e, h, p, q, sample, t, w, z, Draft};
-use compare::{label, plan, ranks, read, text, Answer, Refusal, Row, MOST_BYTES};
+use compare::build::{d, e, h, m, p, q, sample, t, w, z, Draft};
+use compare::{label, plan, ranks, read, text, Answer, Refusal, Row, Window, MOST_BYTES};
 
 const H: usize = 7;
 const D: usize = 5;
 const P: usize = 3;
 const Q: usize = 5;
+const M: usize = 10;
 const T: usize = 10;
 const W: usize = 5;
 const E: usize = 5;
@@ -88,7 +89,13 @@ fn forward_edges(count: usize) -> Vec<(u8, u8, u16)> {
     (0..64).flat_map(|i| (i + 1..64).map(move |k| (i, k, 0))).take(count).collect()
 }
 
-/// Every count, field and label as large as it may be without a `Q`.
+/// Every processor down until 20,000, by four windows each that touch.
+fn all_down() -> Vec<(u8, u32, u32)> {
+    let of = |j| (0..4).map(move |k| (j, 5_000 * k, 5_000 * (k + 1)));
+    (0..16).flat_map(of).collect()
+}
+
+/// Every count, field and label as large as it may be without a `Q` and an `M`.
 fn largest() -> Draft {
     Draft {
         deadline: Some(200_000),
@@ -300,15 +307,35 @@ fn largest_good_request() {
     refuses(&[&request[..], b"E"].concat(), 6, 8_381);
 }
 
-/// The same with a `Q` for each processor: "the size limit grows by 32 bytes".
+/// The same with a `Q` for each processor: "the size limit grows by 32 bytes" (A4).
 #[test]
 fn largest_good_request_with_minimums() {
     let request = largest().with_minimums(&[Some(10_000); 16]).bytes();
     assert_eq!(request.len(), H + D + 16 * Q + 64 * (T + 16 * W) + 512 * E + 1);
-    assert_eq!((request.len(), MOST_BYTES), (8_413, 8_381 + 32));
+    assert_eq!(request.len(), 8_381 + 32);
     passes(&request);
     // No minimum is above 2,000 x 100.
     assert_eq!(answer_with(64, &request), answer_with(64, &largest().bytes()));
+    refuses(&[&request[..], b"E"].concat(), 6, 8_413);
+}
+
+/// The same with four windows for each: "the size limit grows by 640 bytes" (A5).
+#[test]
+fn largest_good_request_with_windows() {
+    let draft = largest().with_minimums(&[Some(10_000); 16]).with_windows(&all_down());
+    let request = draft.bytes();
+    assert_eq!(request.len(), H + D + 16 * Q + 64 * M + 64 * (T + 16 * W) + 512 * E + 1);
+    assert_eq!((request.len(), MOST_BYTES), (9_053, 8_413 + 640));
+    passes(&request);
+    // All are down until 20,000, so the plan is the one without windows, that much later.
+    let (answer, rows) = answer_with(64, &request);
+    let (earlier, rows_earlier) = answer_with(64, &largest().bytes());
+    let Answer::Planned { length, .. } = earlier else { panic!("{earlier:?}") };
+    assert_eq!(answer, planned(64, length + 20_000, 12_800_000, 7_200_000));
+    for (row, earlier) in rows.iter().zip(rows_earlier) {
+        let later = (earlier.0, earlier.1 + 20_000, earlier.2 + 20_000, earlier.3);
+        assert_eq!(*row, later);
+    }
     refuses(&[&request[..], b"E"].concat(), 6, MOST_BYTES);
     // A 513th edge, which is whole only with the bytes past the limit.
     let mut edge = request.clone();
@@ -377,7 +404,7 @@ fn label_lookup_asks_for_reading_only() {
 #[test]
 fn only_the_kind_due() {
     // Each record in turn gets each kind byte; E and Z are due alike at 73, 78
-    // and 83, Q beside P at 7 and 10, and D beside both at 7.
+    // and 83, M beside T at 13, Q beside P at 7 and 10, and D beside both at 7.
     let good = sample(28).bytes();
     let offsets = [0, 7, 10, 13, 23, 28, 33, 43, 48, 53, 63, 68, 73, 78, 83];
     for at in offsets {
@@ -386,6 +413,7 @@ fn only_the_kind_due() {
                 0 => kind == b'H',
                 7 => kind == b'P' || kind == b'Q' || kind == b'D',
                 10 => kind == b'P' || kind == b'Q',
+                13 => kind == b'T' || kind == b'M',
                 73 | 78 | 83 => kind == b'E' || kind == b'Z',
                 _ => kind == good[at],
             };
@@ -405,6 +433,7 @@ fn only_the_kind_due() {
     refuses(&changed(7, b'D'), 4, 7); // the deadline's bytes are 0, 1, `P`, 1
     refuses(&changed(7, b'Q'), 2, 12); // the minimum's are `P`, 1, and 3 is no kind
     refuses(&changed(10, b'Q'), 2, 15); // the minimum's are `T`, 0
+    refuses(&changed(13, b'M'), 4, 13); // the begin's are `prep`, the end's spaces
     refuses(&changed(73, b'Z'), 6, 74);
     refuses(&changed(83, b'E'), 1, 83);
 }
@@ -654,6 +683,237 @@ fn p_and_q_mixed() {
     }
 }
 
+// ---- Maintenance windows ----
+
+/// S(28) with these windows, the first at 13.
+fn down(windows: &[(u8, u32, u32)]) -> Vec<u8> {
+    sample(28).with_windows(windows).bytes()
+}
+
+#[test]
+fn s28_with_windows() {
+    let request = down(&[(0, 7, 9), (1, 4, 30)]);
+    let expected = b"H\x03\x02\x1c\0\0\0P\0\x01P\x01\x03\
+        M\0\x07\0\0\0\x09\0\0\0M\x01\x04\0\0\0\x1e\0\0\0\
+        T\0prep    W\0\0\x0a\0W\0\x01\x04\0T\x01left    W\x01\0\x08\0W\x01\x01\x04\0\
+        T\x02right   W\x02\0\x06\0W\x02\x01\x02\0E\0\x01\x02\0E\0\x02\x03\0Z";
+    assert_eq!(request, expected);
+    assert_eq!(request.len(), 84 + 2 * M);
+    let expected = "plan 3 23 26 2\nprep 1 0 4 12\nleft 0 9 17 8\nright 0 17 23 6\n";
+    assert_eq!(text(&request), expected.as_bytes());
+    let rows = vec![(1, 0, 4, 12), (0, 9, 17, 8), (0, 17, 23, 6)];
+    assert_eq!(answer_with(3, &request), (planned(3, 23, 26, 2), rows));
+    assert_eq!(label(&request, 2), b"right");
+    // Held against a deadline as any other plan.
+    let dated = |deadline| {
+        let draft = sample(28).with_windows(&[(0, 7, 9), (1, 4, 30)]);
+        answer(&Draft { deadline: Some(deadline), ..draft }.bytes())
+    };
+    assert_eq!(dated(23), planned(3, 23, 26, 2));
+    assert_eq!(dated(22), refused(11, 23));
+}
+
+#[test]
+fn s28_without_windows_is_as_it_was() {
+    assert_eq!(down(&[]), sample(28).bytes());
+    // Windows in minutes that no task is tried in.
+    let idle = down(&[(0, 20, 20_000), (1, 8, 9)]);
+    assert_eq!(text(&idle), text(&sample(28).bytes()));
+}
+
+#[test]
+fn window_ends_at_20_000_at_the_latest() {
+    passes(&down(&[(0, 0, 20_000)]));
+    passes(&down(&[(1, 19_999, 20_000)]));
+    refuses(&down(&[(0, 0, 20_001)]), 4, 13);
+    refuses(&down(&[(1, 20_000, 20_001)]), 4, 13);
+    refuses(&down(&[(1, 20_000, 20_000)]), 4, 13);
+    refuses(&down(&[(1, 0, u32::MAX)]), 4, 13);
+    // Each of the four bytes counts, the lowest first.
+    for byte in 0..4 {
+        let minute = 2u32 << (8 * byte);
+        passes_only_if(minute <= 20_000, &down(&[(0, 1, minute)]), 4, 13);
+        passes_only_if(minute <= 20_000, &down(&[(0, minute - 1, minute)]), 4, 13);
+    }
+    let workflow = read(&down(&[(1, 0x0102, 0x0304)])).unwrap();
+    assert_eq!(workflow.windows, [Window { processor: 1, begin: 0x0102, end: 0x0304 }]);
+    assert_eq!(down(&[(1, 0x0102, 0x0304)])[13..23], *b"M\x01\x02\x01\0\0\x04\x03\0\0");
+}
+
+#[test]
+fn window_begins_before_it_ends() {
+    for begin in [0, 1, 255, 256, 19_999] {
+        passes(&down(&[(0, begin, begin + 1)]));
+        refuses(&down(&[(0, begin, begin)]), 4, 13);
+        refuses(&down(&[(0, begin + 1, begin)]), 4, 13);
+    }
+    refuses(&down(&[(0, u32::MAX, 5)]), 4, 13);
+    refuses(&down(&[(0, u32::MAX, u32::MAX)]), 4, 13);
+    // Bytes of the begin above the lowest count too.
+    refuses(&down(&[(0, 0x0100, 5)]), 4, 13);
+    refuses(&down(&[(0, 0x0100_0000, 5)]), 4, 13);
+}
+
+#[test]
+fn window_of_a_processor_below_m() {
+    passes(&down(&[(0, 3, 5)]));
+    passes(&down(&[(1, 3, 5)]));
+    for j in [2, 3, 16, 255] {
+        refuses(&down(&[(j, 3, 5)]), 4, 13);
+        refuses(&down(&[(1, 3, 5), (j, 3, 5)]), 4, 23);
+    }
+    let windows: Vec<_> = (0..16).map(|j| (j, 0, 1)).collect();
+    let mut draft = even(2, 16).with_windows(&windows);
+    passes(&draft.bytes());
+    draft.windows.push((16, 0, 1));
+    refuses(&draft.bytes(), 4, H + 16 * P + 16 * M);
+    refuses(&even(2, 1).with_windows(&[(1, 0, 1)]).bytes(), 4, H + P);
+}
+
+#[test]
+fn four_windows_of_a_processor_and_the_fifth() {
+    let of = |j: u8, count: u32| -> Vec<_> { (0..count).map(|k| (j, 2 * k, 2 * k + 1)).collect() };
+    for j in [0, 1] {
+        passes(&down(&of(j, 4)));
+        refuses(&down(&of(j, 5)), 4, 13 + 4 * M);
+        refuses(&down(&of(j, 6)), 4, 13 + 4 * M);
+    }
+    // They are counted for each processor.
+    passes(&down(&[of(0, 4), of(1, 4)].concat()));
+    refuses(&down(&[of(0, 5), of(1, 4)].concat()), 4, 13 + 4 * M);
+    refuses(&down(&[of(0, 4), of(1, 5)].concat()), 4, 13 + 8 * M);
+    refuses(&down(&[of(0, 1), of(1, 5)].concat()), 4, 13 + 5 * M);
+    // Four that touch, and a fifth that does.
+    let touching = |count: u32| -> Vec<_> { (0..count).map(|k| (0, k, k + 1)).collect() };
+    passes(&down(&touching(4)));
+    refuses(&down(&touching(5)), 4, 13 + 4 * M);
+    // Before it is counted, its kind, its whole body and its order are looked at.
+    let fifth = |window: (u8, u32, u32)| [of(0, 4), vec![window]].concat();
+    refuses(&down(&fifth((0, 8, 9)))[..13 + 5 * M - 1], 1, 13 + 4 * M);
+    refuses(&down(&fifth((0, 6, 9))), 3, 13 + 4 * M);
+    refuses(&down(&fifth((0, 5, 9))), 3, 13 + 4 * M);
+    refuses(&down(&fifth((0, 9, 9))), 4, 13 + 4 * M);
+    refuses(&down(&fifth((2, 9, 10))), 4, 13 + 4 * M);
+    passes(&down(&fifth((1, 0, 1))));
+}
+
+#[test]
+fn windows_rise_by_processor_and_then_begin() {
+    passes(&down(&[(0, 9, 10), (1, 3, 5)])); // the processor rises, the begin falls
+    refuses(&down(&[(1, 3, 5), (0, 9, 10)]), 3, 23); // the processor falls
+    refuses(&down(&[(0, 9, 10), (0, 3, 5)]), 3, 23); // the begin falls
+    refuses(&down(&[(0, 3, 5), (0, 3, 5)]), 3, 23); // equal
+    refuses(&down(&[(0, 3, 5), (0, 3, 9)]), 3, 23); // equal but for the end
+    refuses(&down(&[(0, 3, 5), (1, 3, 5), (0, 6, 7)]), 3, 33);
+    refuses(&down(&[(0, 3, 5), (1, 3, 5), (1, 6, 7), (1, 4, 5)]), 3, 43);
+    passes(&down(&[(1, 3, 5)])); // the first has none before it
+                                 // A begin counts as a whole, not byte by byte.
+    passes(&down(&[(0, 0x00ff, 0x0100), (0, 0x0101, 0x0102)]));
+    refuses(&down(&[(0, 0x0101, 0x0102), (0, 0x00ff, 0x0100)]), 3, 23);
+}
+
+#[test]
+fn no_window_inside_the_one_before() {
+    passes(&down(&[(0, 3, 5), (0, 5, 6)])); // begins where it ends
+    passes(&down(&[(0, 3, 5), (0, 6, 7)]));
+    refuses(&down(&[(0, 3, 5), (0, 4, 6)]), 3, 23); // in its last minute
+    refuses(&down(&[(0, 3, 9), (0, 4, 6)]), 3, 23); // all inside
+    refuses(&down(&[(0, 0, 20_000), (0, 19_999, 20_000)]), 3, 23);
+    passes(&down(&[(0, 3, 9), (1, 4, 6)])); // another processor's
+    refuses(&down(&[(0, 3, 5), (0, 5, 8), (0, 7, 9)]), 3, 33); // the one right before
+    passes(&down(&[(0, 0, 5), (0, 5, 10), (0, 10, 19_999), (0, 19_999, 20_000)]));
+}
+
+#[test]
+fn order_of_windows_comes_before_their_ranges() {
+    refuses(&down(&[(0, 3, 5), (0, 4, 4)]), 3, 23); // inside, and empty
+    refuses(&down(&[(0, 3, 5), (0, 3, 20_001)]), 3, 23);
+    refuses(&down(&[(0, 3, 5), (0, 2, 20_001)]), 3, 23);
+    refuses(&down(&[(1, 3, 5), (0, 9, 8)]), 3, 23);
+    refuses(&down(&[(0, 3, 5), (0, 5, 5)]), 4, 23); // in order, and empty
+    refuses(&down(&[(0, 3, 5), (0, 5, 20_001)]), 4, 23);
+    refuses(&down(&[(0, 3, 5), (0, u32::MAX, 7)]), 4, 23);
+    refuses(&down(&[(0, 3, 5), (255, 2, 1)]), 4, 23);
+    // The fault of the one before comes first.
+    refuses(&down(&[(0, 3, 20_001), (0, 3, 5)]), 4, 13);
+    refuses(&down(&[(255, 3, 5), (0, 3, 5)]), 4, 13);
+    refuses(&down(&[(0, 5, 5), (0, 4, 3)]), 4, 13);
+}
+
+#[test]
+fn m_cut_anywhere() {
+    let request = down(&[(0, 7, 9), (1, 4, 30)]);
+    let offsets = [0, 7, 10, 13, 23, 33, 43, 48, 53, 63, 68, 73, 83, 88, 93, 98, 103, 104];
+    cut_everywhere(&request, &offsets);
+    let draft = Draft { deadline: Some(14), ..sample_with([Some(10), None]) };
+    let request = draft.with_windows(&[(1, 0, 20_000)]).bytes();
+    let offsets = [0, 7, 12, 17, 20, 30, 40, 45, 50, 60, 65, 70, 80, 85, 90, 95, 100, 101];
+    cut_everywhere(&request, &offsets);
+    // Nine cuts in the body, whatever stands there.
+    let request = down(&[(0, 7, 9), (0, u32::MAX, 3)]);
+    refuses(&request, 4, 23);
+    for cut in 24..33 {
+        refuses(&request[..cut], 1, 23);
+    }
+}
+
+#[test]
+fn m_where_none_is_due() {
+    // H, Q, Q, M, T W W, T W W, T W W, E E, Z.
+    let records = sample_with([Some(0), Some(10)]).with_windows(&[(0, 7, 9)]).records();
+    let offset = |k: usize| records[..k].concat().len();
+    // For the header and a processor, and in each place behind the first task.
+    for k in [0, 1, 2, 5, 6, 7, 8, 9, 10, 11, 12, 13, 14, 15] {
+        let mut inserted = records.clone();
+        inserted.insert(k, m(1, 5, 4));
+        refuses(&inserted.concat(), 2, offset(k));
+    }
+    // Before and behind the window, where one is due.
+    for (k, number) in [(3, 3), (4, 0)] {
+        let mut inserted = records.clone();
+        inserted.insert(k, m(1, 4, 5));
+        passes_only_if(number == 0, &inserted.concat(), number, offset(4));
+    }
+    refuses(&[records.concat(), m(1, 4, 5)].concat(), 6, offset(16));
+    // No other kind stands among windows.
+    for record in [h(3, 2, 28), d(14), p(0, 1), p(1, 3), q(1, 3, 10), w(0, 0, 10), e(0, 1, 2), z()]
+    {
+        for k in [3, 4] {
+            let mut inserted = records.clone();
+            inserted.insert(k, record.clone());
+            refuses(&inserted.concat(), 2, offset(k));
+        }
+    }
+    // Nor instead of a processor's record.
+    let mut fewer = records.clone();
+    fewer.remove(2);
+    refuses(&fewer.concat(), 2, H + Q);
+}
+
+/// From no window to four on each of three processors: the records behind them are
+/// found, and each processor has its own.
+#[test]
+fn windows_of_any_number() {
+    let minutes: [&[u16]; 2] = [&[7, 6, 5], &[1, 2, 3]];
+    for counts in 0u32..125 {
+        let count = |j: u8| counts / 5u32.pow(j.into()) % 5;
+        let of = |j: u8| (0..count(j)).map(move |k| (j, 10 * k + u32::from(j), 10 * k + 9));
+        let windows: Vec<_> = (0..3).flat_map(of).collect();
+        let draft = Draft::new(1_000, &[1, 2, 3], &minutes, &[(0, 1, 7)]).with_windows(&windows);
+        for (deadline, least) in [(None, None), (Some(1_000), Some(5))] {
+            let draft = Draft { deadline, ..draft.clone() }.with_minimums(&[least]);
+            let request = draft.bytes();
+            let workflow = read(&request).unwrap();
+            let read = workflow.windows.iter().map(|w| (w.processor as u8, w.begin, w.end));
+            assert!(read.eq(windows.iter().copied()));
+            assert_eq!(workflow.minutes, [7, 6, 5, 1, 2, 3]);
+            let more = deadline.map_or(0, |_| D) + least.map_or(0, |_| Q - P);
+            assert_eq!(workflow.labels[0].start, H + 3 * P + more + M * windows.len() + 2);
+            assert_eq!(label(&request, 1), b"t1");
+        }
+    }
+}
+
 // ---- Refusals after reading ----
 
 #[test]
@@ -704,6 +964,8 @@ fn a_refusal_keeps_every_row() {
         (with_record(2, p(5, 1)), refused(3, 10)),
         (with_record(2, p(1, 101)), refused(4, 10)),
         (with_record(2, q(1, 3, 10_001)), refused(4, 10)),
+        (down(&[(0, 3, 5), (0, 4, 6)]), refused(3, 23)),
+        (down(&[(0, 3, 5), (0, 5, 20_001)]), refused(4, 23)),
         (with_record(3, t(0, "")), refused(5, 13)),
         ([sample(28).bytes(), z()].concat(), refused(6, 84)),
         (cyclic.bytes(), refused(8, 0)),
@@ -745,7 +1007,10 @@ fn the_program_prints_the_text() {
     assert_eq!(run(&[&largest[..], &[b'E'; 20_000]].concat()), b"no 6 8381\n");
     let minimum = sample_with([None, Some(10)]).bytes();
     assert_eq!(run(&minimum), text(&minimum));
-    let longest = self::largest().with_minimums(&[Some(10_000); 16]).bytes();
+    let windows = down(&[(0, 7, 9), (1, 4, 30)]);
+    assert_eq!(run(&windows), text(&windows));
+    let longest = self::largest().with_minimums(&[Some(10_000); 16]).with_windows(&all_down());
+    let longest = longest.bytes();
     assert_eq!(run(&longest), text(&longest));
     let more = [&longest[..], &[b'Q'; 20_000]].concat();
     assert_eq!(run(&more), format!("no 6 {MOST_BYTES}\n").into_bytes());

@@ -1,5 +1,5 @@
-//! Ranks, ties, minimums and the choice of a processor, each on a request small
-//! enough to be worked out by hand. The first five are the "Slips that look
+//! Ranks, ties, minimums, windows and the choice of a processor, each on a request
+//! small enough to be worked out by hand. The first five are the "Slips that look
 //! right" of document 01; the comments say what the slip would answer.
 
 use compare::build::{sample, Draft};
@@ -384,6 +384,222 @@ fn multiplied_out_of_range() {
     }
     let draft = sample(28).with_minimums(&[None, Some(5_000)]);
     assert!(read(&draft.times(2, 1).bytes()).is_ok());
+}
+
+// ---- Windows ----
+
+/// One processor, which is down in these minutes; everything is free, and tasks
+/// take so long.
+fn on_one(minutes: &[u16], down: &[(u32, u32)]) -> Draft {
+    let minutes: Vec<&[u16]> = minutes.chunks(1).collect();
+    let windows: Vec<_> = down.iter().map(|&(begin, end)| (0, begin, end)).collect();
+    Draft::new(0, &[0], &minutes, &[]).with_windows(&windows)
+}
+
+/// When each of its tasks starts.
+fn starts(draft: &Draft) -> Vec<u64> {
+    planned(draft).1.iter().map(|row| row.1).collect()
+}
+
+#[test]
+fn window_at_0() {
+    assert_eq!(planned(&on_one(&[5], &[(0, 7)])), ((12, 0, 0), vec![(0, 7, 12, 0)]));
+    assert_eq!(planned(&on_one(&[5], &[(0, 1)])), ((6, 0, 0), vec![(0, 1, 6, 0)]));
+    let latest = planned(&on_one(&[2_000], &[(0, 20_000)]));
+    assert_eq!(latest, ((22_000, 0, 0), vec![(0, 20_000, 22_000, 0)]));
+}
+
+#[test]
+fn window_that_a_task_just_fits_before() {
+    assert_eq!(planned(&on_one(&[5], &[(5, 9)])), ((5, 0, 0), vec![(0, 0, 5, 0)]));
+    // One minute too long, or the window one minute earlier.
+    assert_eq!(planned(&on_one(&[6], &[(5, 9)])), ((15, 0, 0), vec![(0, 9, 15, 0)]));
+    assert_eq!(planned(&on_one(&[5], &[(4, 9)])), ((14, 0, 0), vec![(0, 9, 14, 0)]));
+    // A task is not interrupted: not even a window of a minute stands inside it.
+    assert_eq!(starts(&on_one(&[5], &[(4, 5)])), [5]);
+    assert_eq!(starts(&on_one(&[5], &[(1, 2)])), [2]);
+}
+
+#[test]
+fn between_two_windows() {
+    assert_eq!(planned(&on_one(&[5], &[(0, 3), (8, 12)])), ((8, 0, 0), vec![(0, 3, 8, 0)]));
+    assert_eq!(starts(&on_one(&[4], &[(0, 3), (8, 12)])), [3]);
+    assert_eq!(planned(&on_one(&[6], &[(0, 3), (8, 12)])), ((18, 0, 0), vec![(0, 12, 18, 0)]));
+    // Too long for the first gap and for the second.
+    assert_eq!(starts(&on_one(&[3], &[(1, 4), (6, 9)])), [9]);
+    assert_eq!(starts(&on_one(&[2], &[(1, 4), (6, 9)])), [4]);
+    assert_eq!(starts(&on_one(&[1], &[(1, 4), (6, 9)])), [0]);
+}
+
+#[test]
+fn behind_a_row_and_before_a_window() {
+    // Placed in this order: 4, then 3 or 4 minutes, then 1.
+    assert_eq!(starts(&on_one(&[4, 3, 1], &[(7, 9)])), [0, 4, 9]);
+    assert_eq!(starts(&on_one(&[4, 4, 1], &[(7, 9)])), [0, 9, 4]);
+    assert_eq!(starts(&on_one(&[4, 3, 1], &[(8, 9)])), [0, 4, 7]);
+}
+
+#[test]
+fn behind_a_window_and_before_a_row() {
+    // Task 1 runs on processor 1 from 5 to 9, which is down until 2.
+    let rows = vec![(0, 0, 2, 0), (1, 5, 9, 0), (1, 2, 5, 0)];
+    let draft = with_a_gap(3, &[&[15, 3]], &[]).with_windows(&[(1, 0, 2)]);
+    assert_eq!(planned(&draft), ((9, 0, 0), rows));
+    // A minute too long, by its minutes or by the window.
+    let rows = vec![(0, 0, 2, 0), (1, 5, 9, 0), (1, 9, 13, 0)];
+    let draft = with_a_gap(3, &[&[15, 4]], &[]).with_windows(&[(1, 0, 2)]);
+    assert_eq!(planned(&draft), ((13, 0, 0), rows));
+    let rows = vec![(0, 0, 2, 0), (1, 5, 9, 0), (1, 9, 12, 0)];
+    let draft = with_a_gap(3, &[&[15, 3]], &[]).with_windows(&[(1, 0, 3)]);
+    assert_eq!(planned(&draft), ((12, 0, 0), rows));
+}
+
+#[test]
+fn window_and_when_the_data_is_ready() {
+    // Task 1 has its data on processor 1 at 5 and takes 4 minutes.
+    let task_1 = |windows: &[(u8, u32, u32)]| {
+        let draft = with_a_gap(3, &[], &[]).with_windows(windows);
+        planned(&draft).1[1]
+    };
+    assert_eq!(task_1(&[(1, 9, 12)]), (1, 5, 9, 0)); // right behind it
+    assert_eq!(task_1(&[(1, 8, 12)]), (1, 12, 16, 0)); // in its last minute
+    assert_eq!(task_1(&[(1, 4, 5)]), (1, 5, 9, 0)); // right before it
+    assert_eq!(task_1(&[(1, 4, 6)]), (1, 6, 10, 0)); // in its first minute
+    assert_eq!(task_1(&[(1, 0, 5), (1, 9, 12)]), (1, 5, 9, 0)); // on both sides
+    assert_eq!(task_1(&[(1, 6, 7)]), (1, 7, 11, 0)); // in the middle
+    assert_eq!(task_1(&[(1, 0, 1), (1, 2, 3)]), (1, 5, 9, 0)); // long before
+                                                               // A task that follows on the same processor waits as well.
+    let draft = Draft::new(0, &[0], &[&[2], &[3]], &[(0, 1, 9)]);
+    assert_eq!(starts(&draft.clone().with_windows(&[(0, 2, 4)])), [0, 4]);
+    assert_eq!(starts(&draft.with_windows(&[(0, 5, 6)])), [0, 2]);
+}
+
+#[test]
+fn all_down_at_first() {
+    let draft = Draft::new(0, &[0, 0], &[&[2, 5]], &[]);
+    let to_10 = draft.clone().with_windows(&[(0, 0, 10), (1, 0, 10)]);
+    assert_eq!(planned(&to_10), ((12, 0, 0), vec![(0, 10, 12, 0)]));
+    let sooner = draft.with_windows(&[(0, 0, 10), (1, 0, 6)]);
+    assert_eq!(planned(&sooner), ((11, 0, 0), vec![(1, 6, 11, 0)]));
+    // The minutes before the first start count, against the deadline too.
+    assert_eq!(refusal(&Draft { deadline: Some(10), ..sooner.clone() }), (11, 11));
+    assert_eq!(planned(&Draft { deadline: Some(11), ..sooner.clone() }), planned(&sooner));
+}
+
+#[test]
+fn window_moves_the_choice() {
+    // Processor 0 would be finished at 5, processor 1 at 6.
+    let draft =
+        |windows: &[(u8, u32, u32)]| Draft::new(0, &[0, 0], &[&[5, 6]], &[]).with_windows(windows);
+    assert_eq!(planned(&draft(&[])), ((5, 0, 0), vec![(0, 0, 5, 0)]));
+    assert_eq!(planned(&draft(&[(0, 5, 8)])), ((5, 0, 0), vec![(0, 0, 5, 0)]));
+    assert_eq!(planned(&draft(&[(0, 4, 8)])), ((6, 0, 0), vec![(1, 0, 6, 0)]));
+    // One minute later both end at 6, and the lower number wins; two minutes do move it.
+    assert_eq!(planned(&draft(&[(0, 0, 1)])), ((6, 0, 0), vec![(0, 1, 6, 0)]));
+    assert_eq!(planned(&draft(&[(0, 0, 2)])), ((6, 0, 0), vec![(1, 0, 6, 0)]));
+}
+
+#[test]
+fn window_of_another_processor() {
+    let draft = Draft::new(0, &[0, 0], &[&[5, 6]], &[]);
+    for windows in [&[(1, 0, 9)][..], &[(1, 2, 3), (1, 4, 20_000)]] {
+        let draft = draft.clone().with_windows(windows);
+        assert_eq!(planned(&draft), ((5, 0, 0), vec![(0, 0, 5, 0)]));
+    }
+}
+
+#[test]
+fn window_of_a_processor_that_is_not_taken() {
+    // Task 0: costs 14, 30, 14, finishes 14, 10 and on processor 2 its 14 minutes
+    // behind the window; B 16, RB 80, RCB 40. Down until 4 it ends at 18: F 8 and
+    // scores of 10,240 on 0 and 1, of which 1 finishes first. Down until 5, F 9,
+    // they are 12,160 and 11,520.
+    let minutes: [&[u16]; 2] = [&[14, 10, 14], &[40, 14, 40]];
+    let draft = Draft::new(80, &[1, 3, 1], &minutes, &[(0, 1, 0)]);
+    let rows = vec![(1, 0, 10, 30), (1, 10, 24, 42)];
+    assert_eq!(planned(&draft), ((24, 72, 8), rows.clone()));
+    assert_eq!(planned(&draft.clone().with_windows(&[(2, 0, 4)])), ((24, 72, 8), rows));
+    let rows = vec![(0, 0, 14, 14), (1, 14, 28, 42)];
+    assert_eq!(planned(&draft.with_windows(&[(2, 0, 5)])), ((28, 56, 24), rows));
+}
+
+#[test]
+fn windows_that_touch() {
+    // As one window from 3 to 9.
+    for down in [&[(3, 9)][..], &[(3, 5), (5, 9)], &[(3, 4), (4, 5), (5, 6), (6, 9)]] {
+        assert_eq!(starts(&on_one(&[3], down)), [0]);
+        assert_eq!(starts(&on_one(&[4], down)), [9]);
+        assert_eq!(starts(&on_one(&[3, 1], down)), [0, 9]);
+    }
+}
+
+#[test]
+fn four_windows_of_a_processor() {
+    let four = [(1, 2), (3, 4), (5, 6), (7, 8)];
+    assert_eq!(starts(&on_one(&[1; 6], &four)), [0, 2, 4, 6, 8, 9]);
+    assert_eq!(starts(&on_one(&[2, 1], &four)), [8, 0]);
+    // Each of them holds, not the first alone.
+    for k in 0..4 {
+        let mut three = four.to_vec();
+        three.remove(k);
+        assert_eq!(starts(&on_one(&[3], &three)), [[0, 2, 4, 6][k]]);
+    }
+    let five = [&four[..], &[(9, 10)]].concat();
+    assert_eq!(refusal(&on_one(&[1], &five)), (4, 7 + 3 + 4 * 10));
+}
+
+#[test]
+fn windows_leave_ranks_and_costs() {
+    let draft = sample(28).with_windows(&[(0, 7, 9), (1, 4, 30)]);
+    assert_eq!(ranks_of(&draft), ranks_of(&sample(28)));
+    // `left` has its data at 6, waits until 9 and costs what it cost; `right` is
+    // behind it on processor 0, where it costs 6 too.
+    let rows = vec![(1, 0, 4, 12), (0, 9, 17, 8), (0, 17, 23, 6)];
+    assert_eq!(planned(&draft), ((23, 26, 2), rows));
+    // The cheapest total does not know windows.
+    let down = [(0, 0, 20_000), (1, 0, 20_000)];
+    assert_eq!(refusal(&sample(23).with_windows(&down)), (9, 24));
+    let rows = vec![(0, 20_000, 20_010, 10), (0, 20_010, 20_018, 8), (1, 20_013, 20_015, 6)];
+    assert_eq!(planned(&sample(24).with_windows(&down)), ((20_018, 24, 0), rows));
+}
+
+#[test]
+fn windows_behind_the_plan() {
+    // From the minute on at which each processor has done its last task: the plan
+    // is S(28)'s, and it is its finish that is held against the deadline.
+    let draft = sample(28).with_windows(&[(0, 14, 20_000), (1, 6, 20_000)]);
+    let rows = vec![(1, 0, 4, 12), (0, 6, 14, 8), (1, 4, 6, 6)];
+    assert_eq!(planned(&Draft { deadline: Some(14), ..draft }), ((14, 26, 2), rows));
+    // One minute earlier on processor 0: `left` no longer fits there, and 10 are
+    // too few for processor 1.
+    let draft = sample(28).with_windows(&[(0, 13, 20_000), (1, 6, 20_000)]);
+    let rows = vec![(1, 0, 4, 12), (0, 20_000, 20_008, 8), (1, 4, 6, 6)];
+    assert_eq!(planned(&draft), ((20_008, 26, 2), rows));
+}
+
+#[test]
+fn windows_are_multiplied_by_a() {
+    let draft = sample(28).with_windows(&[(0, 7, 9), (1, 4, 30)]);
+    let more = draft.times(3, 2);
+    assert_eq!(more.windows, [(0, 21, 27), (1, 12, 90)]);
+    let rows = vec![(1, 0, 12, 72), (0, 27, 51, 48), (0, 51, 69, 36)];
+    assert_eq!(planned(&more), ((69, 156, 12), rows));
+    let rows = vec![(1, 0, 4, 24), (0, 9, 17, 16), (0, 17, 23, 12)];
+    assert_eq!(planned(&draft.times(1, 2)), ((23, 52, 4), rows));
+    // Left as they were, `prep` would fit before neither: it would be finished at
+    // 39 on processor 0, and at 42 on processor 1 for more.
+    let rows = vec![(0, 9, 39, 60), (1, 45, 57, 72), (0, 39, 57, 36)];
+    assert_eq!(planned(&more.with_windows(&draft.windows)), ((57, 168, 0), rows));
+}
+
+#[test]
+fn windows_multiplied_out_of_range() {
+    let draft = |end| sample(28).with_windows(&[(1, 4, end)]);
+    assert!(read(&draft(10_000).times(2, 1).bytes()).is_ok());
+    assert!(read(&draft(10_001).bytes()).is_ok());
+    assert_eq!(refusal(&draft(10_001).times(2, 1)), (4, 13));
+    assert!(read(&draft(20_000).times(1, 7).bytes()).is_ok());
+    assert_eq!(refusal(&draft(20_000).times(2, 1)), (4, 13));
 }
 
 // ---- Choice ----

@@ -68,7 +68,7 @@ fn size(kind: u8) -> usize {
         b'H' => 7,
         b'D' | b'Q' | b'W' | b'E' => 5,
         b'P' => 3,
-        b'T' => 10,
+        b'M' | b'T' => 10,
         _ => 1,
     }
 }
@@ -89,6 +89,9 @@ fn record(bytes: &[u8]) -> String {
         b'Q' => {
             format!("Q  processor {}, price {}, minimum {}", bytes[1], bytes[2], two(3))
         }
+        b'M' => {
+            format!("M  processor {} is down from {} to {}", bytes[1], four(2), four(6))
+        }
         b'T' => format!("T  task {}, label \"{}\"", bytes[1], bytes[2..].escape_ascii()),
         b'W' => format!("W  task {} on processor {}: {} minutes", bytes[1], bytes[2], two(3)),
         b'E' => format!("E  from {} to {}, transfer {}", bytes[1], bytes[2], two(3)),
@@ -102,8 +105,8 @@ fn reason(number: u64) -> &'static str {
     match number {
         1 => "the input ends before this record is whole",
         2 => "another record is due here",
-        3 => "another number is due here, or the edge is not greater than the one before",
-        4 => "a number is out of its range, or this is the 513th edge",
+        3 => "another number is due here, or the edge or window is out of order",
+        4 => "a number is out of its range, or this is the 513th edge or a fifth window",
         5 => "the label is not 1 to 8 bytes of the list and then spaces",
         6 => "there are bytes after the end",
         _ => unreachable!("reading refuses with 1 to 6"),
@@ -140,6 +143,28 @@ mod tests {
 
         let text = described(&draft.bytes()[..14]);
         assert!(text.contains(">>    10  Q  cut short: 4 of 5 bytes\n"), "{text}");
+    }
+
+    #[test]
+    fn windows() {
+        let text = described(&sample(28).with_windows(&[(0, 7, 9), (1, 0, 20_000)]).bytes());
+        assert!(text.contains("      10  P  processor 1, price 3\n"), "{text}");
+        assert!(text.contains("      13  M  processor 0 is down from 7 to 9\n"), "{text}");
+        assert!(text.contains("      23  M  processor 1 is down from 0 to 20000\n"), "{text}");
+        assert!(text.contains("      33  T  task 0, label \"prep    \"\n"), "{text}");
+        assert!(text.ends_with("     103  Z  end\nA good request of 104 bytes.\n"), "{text}");
+
+        let text = described(&sample(28).with_windows(&[(0, 7, 9), (0, 8, 12)]).bytes());
+        assert!(text.contains(">>    23  M  processor 0 is down from 8 to 12\n"), "{text}");
+        assert!(text.contains("Reading stops at byte 23 with refusal 3"), "{text}");
+        assert!(text.ends_with("The 71 bytes from 33 on were not read.\n"), "{text}");
+
+        let request = sample(28).with_windows(&[(1, 7, 70_000)]).bytes();
+        let text = described(&request);
+        assert!(text.contains(">>    13  M  processor 1 is down from 7 to 70000\n"), "{text}");
+        assert!(text.contains("Reading stops at byte 13 with refusal 4"), "{text}");
+        let text = described(&request[..22]);
+        assert!(text.contains(">>    13  M  cut short: 9 of 10 bytes\n"), "{text}");
     }
 
     #[test]
