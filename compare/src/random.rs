@@ -2,7 +2,7 @@
 
 use std::ops::Range;
 
-use crate::build::Draft;
+use crate::build::{m as window_record, Draft};
 use crate::request::LIST;
 
 /// Marsaglia's xorshift with 64 bits.
@@ -49,6 +49,8 @@ pub struct Limits {
     pub transfer: u64,
     pub price: u64,
     pub minimum: u64,
+    /// When the last window ends.
+    pub window: u64,
 }
 
 pub const SMALL: Limits = Limits {
@@ -59,6 +61,7 @@ pub const SMALL: Limits = Limits {
     transfer: 10,
     price: 9,
     minimum: 100,
+    window: 60,
 };
 pub const FULL: Limits = Limits {
     tasks: 64,
@@ -68,6 +71,7 @@ pub const FULL: Limits = Limits {
     transfer: 1_000,
     price: 100,
     minimum: 10_000,
+    window: 20_000,
 };
 
 /// What task i costs on processor j.
@@ -94,9 +98,43 @@ pub fn minimums(
     (0..m).map(one).collect()
 }
 
+/// So many windows of processor j, within these minutes. Some touch, some begin
+/// with the first of the minutes and some end with the last.
+pub fn windows_of(
+    random: &mut Random,
+    j: usize,
+    count: u64,
+    (first, last): (u64, u64),
+) -> Vec<(u8, u32, u32)> {
+    let mut minutes: Vec<u64> =
+        (0..2 * count).map(|_| random.often_an_end(first, last - count)).collect();
+    minutes.sort();
+    // Each window is a minute longer than drawn, so that it has one, and all
+    // behind it are a minute later.
+    let window = |(k, pair): (usize, &[u64])| {
+        let later = k as u64;
+        (j as u8, (pair[0] + later) as u32, (pair[1] + later + 1) as u32)
+    };
+    minutes.chunks_exact(2).enumerate().map(window).collect()
+}
+
+/// Windows for m processors, none that ends after `latest`: up to four for each,
+/// or a quarter of the time for one processor alone.
+pub fn windows(random: &mut Random, m: usize, latest: u64) -> Vec<(u8, u32, u32)> {
+    if random.one_in(4) {
+        let (alone, count) = (random.within(0, m as u64 - 1), random.within(1, 4));
+        return windows_of(random, alone as usize, count, (0, latest));
+    }
+    let of = |j| {
+        let count = random.often_an_end(0, 4);
+        windows_of(random, j, count, (0, latest))
+    };
+    (0..m).flat_map(of).collect()
+}
+
 /// A good request. Edges mostly follow a random order of the tasks; one draft
-/// in ten may have a cycle. Three in four may have `Q`s. The budget lies around
-/// and above the cheapest total.
+/// in ten may have a cycle. Three in four may have `Q`s, and two in three
+/// windows. The budget lies around and above the cheapest total.
 pub fn draft(random: &mut Random, limits: &Limits) -> Draft {
     let n = random.within(1, limits.tasks);
     let m = random.within(1, limits.processors);
@@ -134,6 +172,9 @@ pub fn draft(random: &mut Random, limits: &Limits) -> Draft {
     if random.one_in(4) {
         draft.deadline = Some(random.within(1, limits.minutes * n + 1) as u32);
     }
+    if !random.one_in(3) {
+        draft.windows = windows(random, m as usize, limits.window);
+    }
     draft
 }
 
@@ -156,8 +197,8 @@ pub fn damage(random: &mut Random, request: &mut Vec<u8>) {
 
 /// A good request of exactly these sizes, for readers: each number anywhere in
 /// its range and often at an end of it, labels of any bytes of the list, a
-/// deadline in every second one; three in four may have `Q`s. A request of n
-/// tasks has n x (n-1) edges at the most.
+/// deadline in every second one; three in four may have `Q`s, two in three
+/// windows. A request of n tasks has n x (n-1) edges at the most.
 pub fn sized(random: &mut Random, n: u64, m: u64, edges: u64) -> Draft {
     let mut draft = Draft::new(random.often_an_end(0, 20_000_000) as u32, &[], &[], &[]);
     draft.deadline = random.one_in(2).then(|| random.often_an_end(1, 200_000) as u32);
@@ -182,10 +223,13 @@ pub fn sized(random: &mut Random, n: u64, m: u64, edges: u64) -> Draft {
             left -= 1;
         }
     }
-    // Last, so that all else is the same with any minimums.
+    // Last, so that all else is the same with any minimums and windows.
     if !random.one_in(4) {
         let minimum = |random: &mut Random, _| random.often_an_end(0, 10_000);
         draft.minimums = minimums(random, m as usize, minimum);
+    }
+    if !random.one_in(3) {
+        draft.windows = windows(random, m as usize, 20_000);
     }
     draft
 }
@@ -210,6 +254,9 @@ pub enum Damage {
     Doubled,
     /// A record is gone.
     Dropped,
+    /// One to four windows more, where windows may stand: out of order, inside
+    /// one that is there, past a range, one too many, or good ones.
+    Windows,
     /// From some place on, half of the time from the front, all is noise.
     Noise,
     /// Two to four of the above.
@@ -217,7 +264,7 @@ pub enum Damage {
 }
 
 impl Damage {
-    pub const ALL: [Damage; 10] = [
+    pub const ALL: [Damage; 11] = [
         Damage::Cut,
         Damage::Lengthened,
         Damage::Shortened,
@@ -226,6 +273,7 @@ impl Damage {
         Damage::Moved,
         Damage::Doubled,
         Damage::Dropped,
+        Damage::Windows,
         Damage::Noise,
         Damage::Several,
     ];
@@ -282,6 +330,7 @@ impl Damage {
                 let record = any_record(random, request);
                 request.drain(record);
             }
+            Damage::Windows => more_windows(random, request),
             Damage::Noise => {
                 let kept = if random.one_in(2) { 0 } else { random.within(0, len) };
                 request.truncate(kept as usize);
@@ -301,7 +350,7 @@ impl Damage {
 /// Any byte, half of the time a kind byte, a space or a small number.
 fn any_byte(random: &mut Random) -> u8 {
     if random.one_in(2) {
-        random.one_of(b"HDPQTWEZ \0\x01\x02")
+        random.one_of(b"HDPQMTWEZ \0\x01\x02")
     } else {
         random.number() as u8
     }
@@ -317,7 +366,7 @@ pub fn records(request: &[u8]) -> Vec<Range<usize>> {
             b'H' => 6,
             b'D' | b'Q' | b'W' | b'E' => 4,
             b'P' => 2,
-            b'T' => 9,
+            b'M' | b'T' => 9,
             b'Z' => 0,
             _ => request.len(),
         };
@@ -340,10 +389,67 @@ fn any_record(random: &mut Random, request: &[u8]) -> Range<usize> {
     of_kind.swap_remove(random.within(0, of_kind.len() as u64 - 1) as usize).clone()
 }
 
+/// Adds windows behind one that is there, made from its numbers; to a request
+/// that has none, before its first task.
+fn more_windows(random: &mut Random, request: &mut Vec<u8>) {
+    let processors = request.get(2).copied().unwrap_or(0);
+    let records = records(request);
+    let whole = |record: &&Range<usize>| request[record.start] == b'M' && record.len() == 10;
+    let there: Vec<&Range<usize>> = records.iter().filter(whole).collect();
+    let four = |at: usize| {
+        u32::from_le_bytes([request[at], request[at + 1], request[at + 2], request[at + 3]])
+    };
+    let (at, (j, begin, end)) = match there[..] {
+        [] => {
+            let first = records.iter().find(|record| request[record.start] == b'T');
+            let j = random.within(0, processors.into()) as u8;
+            (first.map_or(request.len(), |record| record.start), (j, 0, 5))
+        }
+        _ => {
+            let window = there[random.within(0, there.len() as u64 - 1) as usize];
+            let at = window.start;
+            (window.end, (request[at + 1], four(at + 2), four(at + 6)))
+        }
+    };
+    let later = |k: u32| end.wrapping_add(k);
+    let more = match random.within(1, 10) {
+        // Right behind it, one or as many as can be, and one more than that.
+        1 => vec![(j, end, later(1))],
+        2 => (0..3).map(|k| (j, later(k), later(k + 1))).collect(),
+        3 => (0..4).map(|k| (j, later(k), later(k + 1))).collect(),
+        // Inside it by a minute, at its begin, and before it.
+        4 => vec![(j, end.wrapping_sub(1), later(3))],
+        5 => vec![(j, begin, later(1))],
+        6 => vec![(j, begin.wrapping_sub(1), begin)],
+        // Of the processor before it.
+        7 => vec![(j.wrapping_sub(1), later(1), later(2))],
+        // Past a range, in order.
+        8 => vec![random.one_of(&[
+            (j, end, end),
+            (j, end, 20_001),
+            (j, later(2), later(1)),
+            (j, end, u32::MAX),
+            (processors, 0, 1),
+            (255, 0, 1),
+        ])],
+        // Past a range, and out of order or inside it: that comes first.
+        9 => vec![random.one_of(&[
+            (j, begin, begin),
+            (j, end.wrapping_sub(1), 20_001),
+            (j.wrapping_sub(1), 5, 4),
+        ])],
+        // Of a processor that there is not, and then of one that there is.
+        _ => vec![(255, 0, 1), (j, end, later(1))],
+    };
+    let more: Vec<Vec<u8>> = more.into_iter().map(|(j, b, e)| window_record(j, b, e)).collect();
+    request.splice(at..at, more.concat());
+}
+
 /// Puts one field of a whole record just past an end of its range; any other
 /// record stays as it is.
 fn put_out_of_range(random: &mut Random, request: &mut [u8], record: Range<usize>) {
     let n = request.get(1).copied().unwrap_or(0);
+    let processors = request.get(2).copied().unwrap_or(0);
     match &mut request[record] {
         [b'H', n, m, budget @ ..] if budget.len() == 4 => match random.within(1, 3) {
             1 => *n = random.one_of(&[0, 65]),
@@ -358,6 +464,15 @@ fn put_out_of_range(random: &mut Random, request: &mut [u8], record: Range<usize
             1 => *price = 101,
             _ => minimum.copy_from_slice(&10_001u16.to_le_bytes()),
         },
+        [b'M', processor, minutes @ ..] if minutes.len() == 8 => {
+            let (begin, end) = minutes.split_at_mut(4);
+            match random.within(1, 4) {
+                1 => *processor = random.one_of(&[processors, 255]),
+                2 => begin.copy_from_slice(end),
+                3 => begin.copy_from_slice(&20_000u32.to_le_bytes()),
+                _ => end.copy_from_slice(&20_001u32.to_le_bytes()),
+            }
+        }
         [b'T', _, label @ ..] if label.len() == 8 => {
             label[random.within(0, 7) as usize] = random.one_of(b" ;@[`{/:,^.\0\n\x7f\x80\xc1\xff")
         }

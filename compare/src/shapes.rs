@@ -1,10 +1,10 @@
-//! Requests for planners: workflows of every shape, with numbers, budgets, deadlines and minimums that bring out ties and
-//! limits.
+//! Requests for planners: workflows of every shape, with numbers, budgets, deadlines, minimums and windows that bring out
+//! ties and limits.
 
 use std::cmp::Reverse;
 
 use crate::build::Draft;
-use crate::random::{cheapest_total, minimums, Random};
+use crate::random::{cheapest_total, minimums, windows_of, Random};
 use crate::{plan, ranks, read, schedule, Answer, Row, Workflow};
 
 /// How the edges lie. Their tasks are numbered in any order.
@@ -80,6 +80,29 @@ pub enum Minimums {
     Ends,
 }
 
+/// When the processors are down. 'The plan' is the one without windows, as long as money does not matter.
+#[derive(Clone, Copy, Debug, PartialEq, Eq)]
+pub enum Windows {
+    /// Never.
+    None,
+    /// One of them, once in the plan, half of the time from 0 on.
+    One,
+    /// Each once in the plan.
+    Each,
+    /// Each four times in the plan.
+    Four,
+    /// All from 0 on, half of the time to the same minute.
+    AtFirst,
+    /// Each up to four times, one right behind the other.
+    Touching,
+    /// Each up to four times, with a minute between two of them, or as many as some task takes there, one less or one more.
+    Close,
+    /// Some, up to four times, after most plans have ended, often to the last minute of the range.
+    Far,
+    /// All or all but one up to the last minute of the range: the whole of it, or with gaps in it such as some task takes.
+    Long,
+}
+
 pub const GRAPHS: [Graph; 7] = [
     Graph::Chain,
     Graph::Fork,
@@ -104,20 +127,34 @@ pub const DEADLINES: [Deadline; 4] =
 pub const MINIMUMS: [Minimums; 4] =
     [Minimums::None, Minimums::Near, Minimums::Same, Minimums::Ends];
 
-pub type Shape = (Graph, Numbers, Budget, Deadline, Minimums);
+pub const WINDOWS: [Windows; 9] = [
+    Windows::None,
+    Windows::One,
+    Windows::Each,
+    Windows::Four,
+    Windows::AtFirst,
+    Windows::Touching,
+    Windows::Close,
+    Windows::Far,
+    Windows::Long,
+];
 
-/// How many shapes there are.
+pub type Shape = (Graph, Numbers, Budget, Deadline, Minimums, Windows);
+
+/// How many shapes there are, but for their windows.
 pub const SHAPES: usize =
     GRAPHS.len() * NUMBERS.len() * BUDGETS.len() * DEADLINES.len() * MINIMUMS.len();
 
 /// The shapes one after the other: graphs change first, then numbers, budgets, deadlines and minimums. After the last
-/// comes the first again.
+/// comes the first again, with other windows: these change from each to the next, and since their number has no divisor
+/// with that of the others, nine rounds have all shapes with all windows.
 pub fn shape(k: usize) -> Shape {
+    let windows = WINDOWS[k % WINDOWS.len()];
     let (graph, k) = (GRAPHS[k % GRAPHS.len()], k / GRAPHS.len());
     let (numbers, k) = (NUMBERS[k % NUMBERS.len()], k / NUMBERS.len());
     let (budget, k) = (BUDGETS[k % BUDGETS.len()], k / BUDGETS.len());
     let (deadline, k) = (DEADLINES[k % DEADLINES.len()], k / DEADLINES.len());
-    (graph, numbers, budget, deadline, MINIMUMS[k % MINIMUMS.len()])
+    (graph, numbers, budget, deadline, MINIMUMS[k % MINIMUMS.len()], windows)
 }
 
 /// Good requests of every shape, one after the other; sizes up to the limits, half of them small.
@@ -131,48 +168,79 @@ pub fn of_every_shape(seed: u64, count: usize) -> impl Iterator<Item = Draft> {
     })
 }
 
+/// The rows of the plan, if the request has one.
+fn planned(request: &[u8]) -> Option<Vec<Row>> {
+    let mut rows = [Row::default(); 64];
+    match plan(request, &mut rows) {
+        Answer::Planned { n, .. } => Some(rows[..n as usize].to_vec()),
+        Answer::Refused { .. } => None,
+    }
+}
+
+/// Whether the request has a plan in which some task runs elsewhere, or at other minutes, than it would in the changed
+/// workflow with no deadline.
+fn turned(request: &[u8], change: impl Fn(&mut Workflow)) -> bool {
+    let Some(rows) = planned(request) else { return false };
+    let mut workflow = read(request).expect("it has a plan");
+    workflow.deadline = None;
+    change(&mut workflow);
+    let mut others = [Row::default(); 64];
+    schedule(&workflow, &mut others);
+    let place = |row: &Row| (row.processor, row.start);
+    rows.iter().zip(&others).any(|(row, other)| place(row) != place(other))
+}
+
 /// Whether the request has a plan in which some task starts before one that was placed earlier on its processor.
 pub fn fills_a_gap(request: &[u8]) -> bool {
-    let mut rows = [Row::default(); 64];
-    let Answer::Planned { n, .. } = plan(request, &mut rows) else { return false };
+    let Some(rows) = planned(request) else { return false };
     let ranks = read(request).ok().and_then(|workflow| ranks(&workflow)).expect("it has a plan");
     let placed = |i: usize| (Reverse(ranks[i]), i);
     let in_a_gap = |i: usize| {
-        (0..n as usize).any(|k| {
+        (0..rows.len()).any(|k| {
             let earlier = placed(k) < placed(i) && rows[k].processor == rows[i].processor;
             earlier && rows[i].start < rows[k].start
         })
     };
-    (0..n as usize).any(in_a_gap)
+    (0..rows.len()).any(in_a_gap)
 }
 
 /// Whether the request has a plan in which some task costs more than its minutes: it is billed a minimum.
 pub fn bills_a_minimum(request: &[u8]) -> bool {
-    let mut rows = [Row::default(); 64];
-    let Answer::Planned { n, .. } = plan(request, &mut rows) else { return false };
+    let Some(rows) = planned(request) else { return false };
     let Workflow { processors: m, prices, minutes, .. } = read(request).expect("it has a plan");
     let by_minutes = |i: usize, j: usize| u64::from(minutes[i * m + j] * prices[j]);
-    (0..n as usize).any(|i| rows[i].cost > by_minutes(i, rows[i].processor as usize))
+    (0..rows.len()).any(|i| rows[i].cost > by_minutes(i, rows[i].processor as usize))
 }
 
 /// Whether the request has a plan in which some task runs elsewhere, or at other minutes, than it would if nothing had a
 /// minimum: the minimums turn a choice.
 pub fn turned_by_minimums(request: &[u8]) -> bool {
-    let mut rows = [Row::default(); 64];
-    let Answer::Planned { n, .. } = plan(request, &mut rows) else { return false };
-    let workflow = read(request).expect("it has a plan");
-    let none = vec![0; workflow.processors];
-    let mut without = [Row::default(); 64];
-    schedule(&Workflow { minimums: none, deadline: None, ..workflow }, &mut without);
-    let place = |row: &Row| (row.processor, row.start);
-    (0..n as usize).any(|i| place(&rows[i]) != place(&without[i]))
+    turned(request, |workflow| workflow.minimums.fill(0))
+}
+
+/// Whether the request has a plan in which some task starts at the minute at which a window of its processor ends.
+pub fn waits_for_a_window(request: &[u8]) -> bool {
+    let Some(rows) = planned(request) else { return false };
+    let windows = read(request).expect("it has a plan").windows;
+    let waits = |row: &Row| {
+        windows.iter().any(|window| {
+            (window.processor as u64, u64::from(window.end)) == (row.processor, row.start)
+        })
+    };
+    rows.iter().any(waits)
+}
+
+/// Whether the request has a plan in which some task runs elsewhere, or at other minutes, than it would if nothing were
+/// ever down.
+pub fn turned_by_windows(request: &[u8]) -> bool {
+    turned(request, |workflow| workflow.windows.clear())
 }
 
 /// A good request of so many tasks and processors.
 pub fn shaped(
     random: &mut Random,
     (n, m): (usize, usize),
-    (graph, numbers, budget, deadline, least): Shape,
+    (graph, numbers, budget, deadline, least, down): Shape,
 ) -> Draft {
     let mut draft = Draft::new(20_000_000, &[], &[], &[]);
     draft.prices = prices(random, m, numbers);
@@ -191,6 +259,7 @@ pub fn shaped(
         draft.edges.push((from, to, transfer));
     }
     draft.minimums = least_amounts(random, &draft, least);
+    draft.windows = windows(random, &draft, down);
     let cheapest = cheapest_total(&draft);
     draft.budget = match budget {
         Budget::Plenty => 20_000_000,
@@ -201,9 +270,11 @@ pub fn shaped(
     draft.deadline = match deadline {
         Deadline::None => None,
         Deadline::Any => Some(random.within(1, 4_000) as u32),
-        Deadline::Length => length(&draft).map(|length| length as u32),
+        // A plan with windows might end later than any deadline.
+        Deadline::Length => length(&draft).map(|length| length.min(200_000) as u32),
         Deadline::TooEarly => {
-            length(&draft).filter(|&length| length > 1).map(|length| length as u32 - 1)
+            let later = length(&draft).filter(|&length| length > 1);
+            later.map(|length| length.min(200_001) as u32 - 1)
         }
     };
     draft
@@ -270,6 +341,63 @@ fn least_amounts(random: &mut Random, draft: &Draft, least: Minimums) -> Vec<Opt
         }
         Minimums::Ends => minimums(random, m, |random, _| random.one_of(&[0, 1, 9_999, 10_000])),
     }
+}
+
+/// The windows, for the tasks, edges and minimums that the draft has.
+fn windows(random: &mut Random, draft: &Draft, down: Windows) -> Vec<(u8, u32, u32)> {
+    if down == Windows::None {
+        return Vec::new();
+    }
+    const LAST: u64 = 20_000;
+    let m = draft.prices.len();
+    // The plan's minutes; with a cycle there is none.
+    let plan = length(draft).unwrap_or(1_000).clamp(8, LAST);
+    // The minutes of a task on processor j, one less or one more.
+    let near = |random: &mut Random, j: usize| {
+        let task = random.within(0, draft.tasks.len() as u64 - 1) as usize;
+        (u64::from(draft.tasks[task].1[j]) + random.within(0, 2)).max(2) - 1
+    };
+    let between =
+        |random: &mut Random, j: usize| if random.one_in(3) { 1 } else { near(random, j) };
+    let anyone = random.within(0, m as u64 - 1) as usize;
+    let same = random.one_in(2);
+    let to = random.within(1, plan);
+    let count = random.within(1, 4);
+    let mut of = |j: usize| match down {
+        Windows::None => Vec::new(),
+        Windows::One if j != anyone => Vec::new(),
+        Windows::One if same => vec![(j as u8, 0, to as u32)],
+        Windows::One | Windows::Each => windows_of(random, j, 1, (0, plan)),
+        Windows::Four => windows_of(random, j, 4, (0, plan)),
+        Windows::AtFirst => {
+            let to = if same { to } else { random.within(1, plan) };
+            vec![(j as u8, 0, to as u32)]
+        }
+        Windows::Touching | Windows::Close => {
+            let mut at = if random.one_in(3) { 0 } else { random.within(0, plan - 1) };
+            let mut windows = Vec::new();
+            while windows.len() < 4 && at < LAST {
+                let end = (at + random.within(1, plan / 4)).min(LAST);
+                windows.push((j as u8, at as u32, end as u32));
+                at = end + if down == Windows::Close { between(random, j) } else { 0 };
+            }
+            windows
+        }
+        Windows::Far if random.one_in(3) => Vec::new(),
+        Windows::Far => windows_of(random, j, count, (plan.min(LAST - 10), LAST)),
+        Windows::Long if same && j == anyone => Vec::new(),
+        Windows::Long => {
+            let mut at = if random.one_in(2) { 0 } else { near(random, j) };
+            let mut windows = Vec::new();
+            for left in (0..count).rev() {
+                let end = if left == 0 { LAST } else { at + random.within(1, 3_500) };
+                windows.push((j as u8, at as u32, end as u32));
+                at = end + near(random, j);
+            }
+            windows
+        }
+    };
+    (0..m).flat_map(&mut of).collect()
 }
 
 /// The ends of the edges, rising.

@@ -2,11 +2,14 @@
 //! from the numbers of the request, and damaged requests.
 
 use std::cmp::Reverse;
+use std::collections::HashSet;
 
-use compare::build::Draft;
-use compare::random::{cheapest_total, cost, damage, draft, Limits, Random, FULL, SMALL};
+use compare::build::{sample, Draft};
+use compare::random::{cheapest_total, cost, damage, draft, Damage, Limits, Random, FULL, SMALL};
 use compare::shapes::{bills_a_minimum, fills_a_gap, of_every_shape, shaped, turned_by_minimums};
-use compare::shapes::{Budget, Deadline, GRAPHS, MINIMUMS, NUMBERS, SHAPES};
+use compare::shapes::{shape, turned_by_windows, waits_for_a_window};
+use compare::shapes::{Budget, Deadline, SHAPES};
+use compare::shapes::{BUDGETS, DEADLINES, GRAPHS, MINIMUMS, NUMBERS, WINDOWS};
 use compare::{label, plan, ranks, read, text, Answer, Row, REFUSALS};
 
 /// What must hold of any answer to a good request with enough rows.
@@ -32,8 +35,11 @@ fn check(draft: &Draft, answer: Answer, rows: &[Row]) {
             let apart = row.finish <= other.start || other.finish <= row.start;
             assert!(row.processor != other.processor || apart);
         }
-        // The data is there, and no earlier minute has room beside the other
-        // rows: those placed later have only taken more of them.
+        for &(_, begin, end) in draft.windows.iter().filter(|window| usize::from(window.0) == j) {
+            assert!(row.finish <= begin.into() || u64::from(end) <= row.start);
+        }
+        // The data is there, and no earlier minute has room beside the windows
+        // and the other rows: those placed later have only taken more of them.
         let others = (0..rows.len()).filter(|&k| k != i).map(|k| &rows[k]);
         assert_eq!(row.start, first_with_room(draft, rows, i, j, others));
     }
@@ -55,8 +61,9 @@ fn ready(draft: &Draft, rows: &[Row], task: usize, processor: usize) -> u64 {
 }
 
 /// The least minute, not before its data is ready, at which a task's minutes
-/// overlap none of those rows that are on this processor. It is the one when
-/// the data is ready or one at which a row ends, and all of these are tried.
+/// overlap no window of this processor and none of those rows that are on it. It
+/// is the one when the data is ready or one at which a window or a row ends, and
+/// all of these are tried.
 fn first_with_room<'a>(
     draft: &Draft,
     rows: &[Row],
@@ -64,13 +71,18 @@ fn first_with_room<'a>(
     processor: usize,
     others: impl Iterator<Item = &'a Row>,
 ) -> u64 {
-    let there: Vec<&Row> = others.filter(|row| row.processor as usize == processor).collect();
+    let there = others.filter(|row| row.processor as usize == processor);
+    let down = draft.windows.iter().filter(|window| usize::from(window.0) == processor);
+    let busy: Vec<(u64, u64)> = there
+        .map(|row| (row.start, row.finish))
+        .chain(down.map(|&(_, begin, end)| (begin.into(), end.into())))
+        .collect();
     let ready = ready(draft, rows, task, processor);
     let minutes = u64::from(draft.tasks[task].1[processor]);
-    let overlaps = |start: u64, row: &Row| start.max(row.start) < (start + minutes).min(row.finish);
-    let ends = there.iter().map(|row| row.finish).filter(|&end| end > ready);
+    let overlaps = |start: u64, (begin, end)| start.max(begin) < (start + minutes).min(end);
+    let ends = busy.iter().map(|&(_, end)| end).filter(|&end| end > ready);
     let starts = ends.chain([ready]);
-    starts.filter(|&start| !there.iter().any(|row| overlaps(start, row))).min().unwrap()
+    starts.filter(|&start| !busy.iter().any(|&busy| overlaps(start, busy))).min().unwrap()
 }
 
 /// Whether this task has a path back to itself and no lower task has: the
@@ -114,7 +126,7 @@ impl Met {
 
 fn check_many(random: &mut Random, limits: &Limits, count: usize) {
     let mut met = Met::default();
-    let (mut billed, mut turned) = (0, 0);
+    let mut sorts = Sorts::default();
     for _ in 0..count {
         let draft = draft(random, limits);
         let mut rows = [Row::default(); 64];
@@ -122,12 +134,39 @@ fn check_many(random: &mut Random, limits: &Limits, count: usize) {
         let answer = plan(&request, &mut rows);
         check(&draft, answer, &rows);
         met.note(answer);
-        billed += u64::from(bills_a_minimum(&request));
-        turned += u64::from(turned_by_minimums(&request));
+        if matches!(answer, Answer::Planned { .. }) {
+            sorts.note(&request);
+        }
     }
     met.at_least(20, &[0, 8, 9, 11]);
-    assert!(billed >= met.0[0] / 6, "{billed} of {}", met.0[0]);
-    assert!(turned >= met.0[0] / 6, "{turned} of {}", met.0[0]);
+    sorts.at_least(met.0[0], &[0, 6, 6, 4, 4]);
+}
+
+/// Counts of plans of these sorts: with a task in a gap, with one that is billed a
+/// minimum, others without minimums, with a task that starts where a window ends,
+/// others without windows.
+#[derive(Default)]
+struct Sorts([u64; 5]);
+
+impl Sorts {
+    fn note(&mut self, request: &[u8]) {
+        let sorts: [fn(&[u8]) -> bool; 5] = [
+            fills_a_gap,
+            bills_a_minimum,
+            turned_by_minimums,
+            waits_for_a_window,
+            turned_by_windows,
+        ];
+        for (count, sort) in self.0.iter_mut().zip(sorts) {
+            *count += u64::from(sort(request));
+        }
+    }
+
+    /// One plan of so many is of each sort; 0 for any number.
+    fn at_least(&self, plans: u64, one_of: &[u64; 5]) {
+        let enough = |(&count, &one_of): (&u64, &u64)| one_of == 0 || count >= plans / one_of;
+        assert!(self.0.iter().zip(one_of).all(enough), "{:?} of {plans}", self.0);
+    }
 }
 
 #[test]
@@ -142,25 +181,44 @@ fn facts_of_full_plans() {
 
 /// Requests of every shape, as the proved code is asked: in one plan of six some
 /// task is in a gap, in one of six some is billed a minimum, and as many are
-/// other plans than without minimums.
+/// other plans than without minimums; in one of four some task starts where a
+/// window ends, and every third is another plan than without windows.
 #[test]
 fn facts_of_plans_of_every_shape() {
     let mut met = Met::default();
-    let (mut gaps, mut billed, mut turned) = (0, 0, 0);
+    let mut sorts = Sorts::default();
     for draft in of_every_shape(0x600D_5EED_0000_0003, 3 * SHAPES) {
         let mut rows = [Row::default(); 64];
         let request = draft.bytes();
         let answer = plan(&request, &mut rows);
         check(&draft, answer, &rows);
         met.note(answer);
-        gaps += u64::from(fills_a_gap(&request));
-        billed += u64::from(bills_a_minimum(&request));
-        turned += u64::from(turned_by_minimums(&request));
+        if matches!(answer, Answer::Planned { .. }) {
+            sorts.note(&request);
+        }
     }
     met.at_least(200, &[0, 8, 9, 11]);
-    assert!(gaps >= met.0[0] / 6, "{gaps} of {}", met.0[0]);
-    assert!(billed >= met.0[0] / 6, "{billed} of {}", met.0[0]);
-    assert!(turned >= met.0[0] / 6, "{turned} of {}", met.0[0]);
+    sorts.at_least(met.0[0], &[6, 6, 6, 4, 3]);
+}
+
+/// Nine rounds of the shapes have each with each sort of windows, and one round has
+/// each sort with each of the other parts.
+#[test]
+fn every_shape_with_every_sort_of_windows() {
+    let rounds = WINDOWS.len() * SHAPES;
+    let all: HashSet<String> = (0..rounds).map(|k| format!("{:?}", shape(k))).collect();
+    assert_eq!(all.len(), rounds);
+    assert_eq!(shape(rounds), shape(0));
+    let parts = |k: usize| {
+        let (graph, numbers, budget, deadline, least, down) = shape(k);
+        let (graph, numbers) = (format!("{graph:?}"), format!("{numbers:?}"));
+        let (budget, deadline) = (format!("{budget:?}"), format!("{deadline:?}"));
+        let parts = [graph, numbers, budget, deadline, format!("{least:?}")];
+        parts.into_iter().enumerate().map(move |(i, part)| (i, part, format!("{down:?}")))
+    };
+    let pairs: HashSet<(usize, String, String)> = (0..SHAPES).flat_map(parts).collect();
+    let others = GRAPHS.len() + NUMBERS.len() + BUDGETS.len() + DEADLINES.len() + MINIMUMS.len();
+    assert_eq!(pairs.len(), others * WINDOWS.len());
 }
 
 /// "Once the cheapest total fits, I believe the cheapest processor can always
@@ -177,8 +235,8 @@ fn the_cheapest_processor_can_always_be_taken() {
         let n = random.often_an_end(1, most) as usize;
         let m = random.often_an_end(1, widest) as usize;
         let (graph, numbers) = (random.one_of(graphs), random.one_of(&NUMBERS));
-        let least = random.one_of(&MINIMUMS);
-        let shape = (graph, numbers, Budget::Cheapest, Deadline::None, least);
+        let (least, down) = (random.one_of(&MINIMUMS), random.one_of(&WINDOWS));
+        let shape = (graph, numbers, Budget::Cheapest, Deadline::None, least, down);
         let mut draft = shaped(&mut random, (n, m), shape);
         let cheapest = cheapest_total(&draft);
         for more in [0, 1, random.within(2, cheapest + 2)] {
@@ -221,14 +279,14 @@ fn placed_again(draft: &Draft, rows: &[Row]) -> usize {
     kept_from_best
 }
 
-/// Times by a, prices by b, minimums and budget by both: the same processors,
-/// starts and finishes by a, costs by a x b; refusal 8 the same, 9 by a x b, 11
-/// by a.
+/// Times and windows by a, prices by b, minimums and budget by both: the same
+/// processors, starts and finishes by a, costs by a x b; refusal 8 the same, 9 by
+/// a x b, 11 by a.
 #[test]
 fn multiplied_requests() {
     let mut random = Random(0xA076_1D64_78BD_642F);
     let mut met = Met::default();
-    let mut billed = 0;
+    let (mut billed, mut turned) = (0, 0);
     for _ in 0..20_000 {
         let draft = draft(&mut random, &SMALL);
         let (a, b) = (random.within(1, 7), random.within(1, 7));
@@ -257,9 +315,203 @@ fn multiplied_requests() {
         }
         met.note(answer);
         billed += u64::from(bills_a_minimum(&draft.bytes()));
+        turned += u64::from(turned_by_windows(&draft.bytes()));
     }
     met.at_least(20, &[0, 8, 9, 11]);
     assert!(billed >= 5_000, "{billed}");
+    assert!(turned >= 5_000, "{turned}");
+}
+
+/// A window whose end is multiplied past 20,000 is refused in reading, and the
+/// first such window is the place; else the windows are multiplied.
+#[test]
+fn windows_multiplied_out_of_range() {
+    let mut random = Random(0x0A5A_5EED_0000_0002);
+    let mut met = Met::default();
+    for _ in 0..5_000 {
+        let mut draft = draft(&mut random, &SMALL);
+        let windows = random.within(3_000, 20_000);
+        draft.windows = compare::random::windows(&mut random, draft.prices.len(), windows);
+        let a = random.within(1, 7) as u8;
+        let past = |window: &(u8, u32, u32)| window.2 * u32::from(a) > 20_000;
+        let first = draft.windows.iter().position(past);
+        let mut rows = [Row::default(); 64];
+        let answer = plan(&draft.times(a, 1).bytes(), &mut rows);
+        match first {
+            Some(k) => {
+                let records = draft.records();
+                let before = records.iter().position(|record| record[0] == b'M').unwrap();
+                let place = records[..before + k].concat().len() as u64;
+                assert_eq!(answer, Answer::Refused { number: 4, place });
+            }
+            None => check(&draft.times(a, 1), answer, &rows),
+        }
+        met.note(answer);
+    }
+    met.at_least(500, &[0, 4]);
+}
+
+/// A window cut in two that touch, and windows later than any finish on any
+/// processor, change nothing.
+#[test]
+fn windows_that_change_nothing() {
+    /// The last window, all minutes and all transfers, one after the other.
+    const LATER: u64 = SMALL.window + 8 * 20 + 7 * 10;
+    let mut random = Random(0x0A5A_5EED_0000_0003);
+    let (mut later, mut cut) = (0, 0);
+    for _ in 0..5_000 {
+        let before = draft(&mut random, &SMALL);
+        let mut after = before.clone();
+        for j in (0..before.prices.len() as u8).rev() {
+            let here = after.windows.iter().position(|window| window.0 == j);
+            let behind = after.windows.partition_point(|window| window.0 <= j);
+            let there = after.windows.iter().filter(|window| window.0 == j).count();
+            if there < 4 && random.one_in(2) {
+                let begin = random.within(LATER, 19_999);
+                let end = random.within(begin + 1, 20_000);
+                after.windows.insert(behind, (j, begin as u32, end as u32));
+                later += 1;
+            } else if let Some(k) = here.filter(|_| there < 4) {
+                let (_, begin, end) = after.windows[k];
+                if end - begin >= 2 {
+                    let middle = random.within(u64::from(begin) + 1, u64::from(end) - 1) as u32;
+                    after.windows.splice(k..=k, [(j, begin, middle), (j, middle, end)]);
+                    cut += 1;
+                }
+            }
+        }
+        assert_eq!(text(&before.bytes()), text(&after.bytes()), "{before:?} {after:?}");
+    }
+    assert!(later >= 2_000 && cut >= 1_000, "{later} later, {cut} cut");
+}
+
+/// Where all processors are down at first, for the same minutes, the plan is the
+/// one that begins then: all starts are as much later, and so are the windows.
+#[test]
+fn all_down_at_first_is_a_later_plan() {
+    let mut random = Random(0x0A5A_5EED_0000_0006);
+    let (mut met, mut waiting) = (Met::default(), 0);
+    for round in 0..5_000 {
+        let limits = if round % 10 == 0 { &FULL } else { &SMALL };
+        let mut draft = draft(&mut random, limits);
+        draft.deadline = None;
+        let later = random.often_an_end(1, 20_000 - limits.window.min(19_000)) as u32;
+        let m = draft.prices.len() as u8;
+        // One window of each must have room before the others.
+        let of = |j: u8| {
+            let of_j = draft.windows.iter().filter(move |window| window.0 == j);
+            of_j.filter(|window| window.2 + later <= 20_000).take(3).copied()
+        };
+        draft.windows = (0..m).flat_map(of).collect();
+        let after = (0..m).flat_map(|j| {
+            let of_j = draft.windows.iter().filter(move |window| window.0 == j);
+            let moved = of_j.map(|&(j, begin, end)| (j, begin + later, end + later));
+            [(j, 0, later)].into_iter().chain(moved)
+        });
+        let after = Draft { windows: after.collect(), ..draft.clone() };
+        let (mut rows, mut more) = ([Row::default(); 64], [Row::default(); 64]);
+        let answer = plan(&draft.bytes(), &mut rows);
+        let expected = match answer {
+            Answer::Planned { n, length, cost, left } => {
+                Answer::Planned { n, length: length + u64::from(later), cost, left }
+            }
+            refused => refused,
+        };
+        assert_eq!(plan(&after.bytes(), &mut more), expected, "{after:?}");
+        if let Answer::Planned { n, .. } = answer {
+            for (row, more) in rows[..n as usize].iter().zip(&more) {
+                assert_eq!((more.processor, more.cost), (row.processor, row.cost));
+                assert_eq!(more.start, row.start + u64::from(later));
+            }
+        }
+        waiting += u64::from(waits_for_a_window(&draft.bytes()));
+        met.note(answer);
+    }
+    met.at_least(20, &[0, 8, 9]);
+    assert!(waiting >= 500, "{waiting}");
+}
+
+/// Lists of windows of small numbers, in order and not: the first that has a fault
+/// is refused with the number that is due, as said here of the list as a whole.
+#[test]
+fn lists_of_windows() {
+    let mut random = Random(0x0A5A_5EED_0000_0004);
+    let mut met = [0; 9];
+    for _ in 0..60_000 {
+        let mut windows: Vec<(u8, u32, u32)> = Vec::new();
+        for _ in 0..random.within(0, 12) {
+            let j = random.one_of(&[0, 0, 0, 0, 0, 1, 1, 1, 1, 1, 2, 255]);
+            let begin = random.within(0, 40) as u32;
+            let end = match random.within(1, 20) {
+                1 => begin,
+                2 => begin.saturating_sub(1),
+                3 => random.one_of(&[20_000, 20_001, u32::MAX]),
+                _ => begin + random.within(1, 6) as u32,
+            };
+            windows.push((j, begin, end));
+        }
+        if !random.one_in(6) {
+            windows.sort();
+        }
+        let fault = |k: usize| -> Option<(u64, usize)> {
+            let (j, begin, end) = windows[k];
+            let before = &windows[..k];
+            let above = before.iter().all(|other| (other.0, other.1) < (j, begin));
+            let of_j: Vec<_> = before.iter().filter(|other| other.0 == j).collect();
+            let inside = of_j.iter().any(|other| begin < other.2);
+            match () {
+                _ if !above => Some((3, 1)),
+                _ if inside => Some((3, 2)),
+                _ if j >= 2 => Some((4, 3)),
+                _ if begin == end => Some((4, 4)),
+                _ if begin > end => Some((4, 5)),
+                _ if end > 20_000 => Some((4, 6)),
+                _ if of_j.len() >= 4 => Some((4, 7)),
+                _ => None,
+            }
+        };
+        let first = (0..windows.len()).find_map(|k| fault(k).map(|(number, why)| (k, number, why)));
+        let answer = read(&sample(28).with_windows(&windows).bytes());
+        match first {
+            Some((k, number, why)) => {
+                let refusal = answer.unwrap_err();
+                assert_eq!((refusal.number, refusal.place), (number, 13 + 10 * k as u64));
+                met[why] += 1;
+            }
+            None => {
+                let read = answer.unwrap().windows;
+                let read = read.iter().map(|w| (w.processor as u8, w.begin, w.end));
+                assert!(read.eq(windows.iter().copied()));
+                met[if windows.is_empty() { 0 } else { 8 }] += 1;
+            }
+        }
+    }
+    assert!(met.iter().all(|&count| count >= 500), "{met:?}");
+}
+
+/// Damage to windows alone: what is refused at an `M`, and that all of 1 to 4 are.
+#[test]
+fn damaged_windows() {
+    let mut random = Random(0x0A5A_5EED_0000_0005);
+    let (mut met, mut met_at_m) = (Met::default(), Met::default());
+    for round in 0..20_000 {
+        let limits = if round % 10 == 0 { &FULL } else { &SMALL };
+        let mut request = draft(&mut random, limits).bytes();
+        let kinds = [Damage::Windows, Damage::Moved, Damage::OutOfRange, Damage::Doubled];
+        random.one_of(&kinds).to(&mut random, &mut request);
+        if random.one_in(8) {
+            Damage::Cut.to(&mut random, &mut request);
+        }
+        let answer = plan(&request, &mut [Row::default(); 64]);
+        if let Answer::Refused { number: 1..=6, place } = answer {
+            if request.get(place as usize) == Some(&b'M') {
+                met_at_m.note(answer);
+            }
+        }
+        met.note(answer);
+    }
+    met.at_least(40, &[0, 1, 2, 3, 4, 5, 6, 8, 9, 11]);
+    met_at_m.at_least(40, &[1, 2, 3, 4]);
 }
 
 /// "A `P` may stand beside a `Q` with minimum 0": the same answer and rows, where
@@ -295,7 +547,7 @@ fn damaged_requests() {
     const KEPT: Row = Row { processor: 91, start: 92, finish: 93, cost: 94 };
     let mut random = Random(0xE703_7ED1_A0B4_28DB);
     let mut met = Met::default();
-    let mut met_at_q = Met::default();
+    let (mut met_at_q, mut met_at_m) = (Met::default(), Met::default());
     for round in 0..30_000 {
         let limits = if round % 10 == 0 { &FULL } else { &SMALL };
         let mut request = draft(&mut random, limits).bytes();
@@ -314,8 +566,10 @@ fn damaged_requests() {
                 let in_reading = number <= 6;
                 assert_eq!(read(&request).is_err(), in_reading);
                 assert!(!in_reading || place as usize <= request.len());
-                if in_reading && request.get(place as usize) == Some(&b'Q') {
-                    met_at_q.note(answer);
+                match request.get(place as usize) {
+                    Some(b'Q') if in_reading => met_at_q.note(answer),
+                    Some(b'M') if in_reading => met_at_m.note(answer),
+                    _ => {}
                 }
                 0
             }
@@ -333,6 +587,7 @@ fn damaged_requests() {
     met.at_least(20, &[0]);
     met.at_least(20, &REFUSALS);
     met_at_q.at_least(5, &[1, 2, 3, 4]);
+    met_at_m.at_least(5, &[1, 2, 3, 4]);
 }
 
 #[test]
@@ -341,10 +596,11 @@ fn bytes_without_sense() {
     for _ in 0..20_000 {
         let length = random.within(0, 200) as usize;
         let mut request: Vec<u8> =
-            (0..length).map(|_| random.one_of(b"HDPQTWEZ\0\x01\x02 a")).collect();
-        match random.within(1, 4) {
+            (0..length).map(|_| random.one_of(b"HDPQMTWEZ\0\x01\x02 a")).collect();
+        match random.within(1, 5) {
             1 => drop(request.splice(..0, *b"H\x01\x01\0\0\0\0P\0\0")),
             2 => drop(request.splice(..0, *b"H\x01\x01\0\0\0\0Q\0\0\x10\x27")),
+            3 => drop(request.splice(..0, *b"H\x01\x01\0\0\0\0P\0\0M\0\0\0\0\0\x20\x4e\0\0")),
             _ => {}
         }
         let answer = plan(&request, &mut [Row::default(); 64]);

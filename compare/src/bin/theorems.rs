@@ -7,21 +7,34 @@ use std::iter::repeat_with;
 use compare::build::sample;
 use compare::random::{damage, draft, Damage, Limits, Random};
 use compare::shapes::{bills_a_minimum, fills_a_gap, turned_by_minimums};
+use compare::shapes::{turned_by_windows, waits_for_a_window};
 use compare::{plan, text, Answer, Row, REFUSALS};
 
 /// Small enough to be computed by the checker in a moment.
-const TINY: Limits =
-    Limits { tasks: 4, processors: 3, edges: 6, minutes: 12, transfer: 6, price: 5, minimum: 30 };
+const TINY: Limits = Limits {
+    tasks: 4,
+    processors: 3,
+    edges: 6,
+    minutes: 12,
+    transfer: 6,
+    price: 5,
+    minimum: 30,
+    window: 24,
+};
 
 /// As many requests as they come, and as many more of each sort that is rare among them or matters most: with a task in a
-/// gap, with a task that is billed a minimum, with a plan that is another without minimums, for each refusal, and for
-/// each that reading can give at a `Q`.
+/// gap, with a task that is billed a minimum, with a plan that is another without minimums, with a task that starts where
+/// a window ends, with a plan that is another without windows, for each refusal, and for each that reading can give at a
+/// `Q` and at an `M`.
 const ANY: usize = 80;
 const GAPS: usize = 40;
 const BILLED: usize = 20;
 const TURNED: usize = 20;
+const WAITING: usize = 20;
+const TURNED_BY_WINDOWS: usize = 20;
 const REFUSED: usize = 2;
 const REFUSED_AT_Q: usize = 5;
+const REFUSED_AT_M: usize = 6;
 
 fn main() {
     println!("use mathlib.Core.Path.{{_≡_, refl}}");
@@ -51,25 +64,34 @@ fn requests() -> Vec<Vec<u8>> {
         request
     });
     let mut requests: Vec<Vec<u8>> = drawn.by_ref().take(ANY).collect();
-    // The end of the range, which numbers so small do not come to.
-    let end = |minimum| sample(28).with_minimums(&[None, Some(minimum)]).bytes();
-    requests.extend([end(10_000), end(10_001)]);
+    // The ends of the ranges, which numbers so small do not come to.
+    let least = |minimum| sample(28).with_minimums(&[None, Some(minimum)]).bytes();
+    let down = |begin, end| sample(28).with_windows(&[(1, begin, end)]).bytes();
+    requests.extend([least(10_000), least(10_001)]);
+    requests.extend([down(4, 20_000), down(4, 20_001), down(19_999, 20_000)]);
+    // Four windows of a processor, and five.
+    let windows = [(0, 0, 1), (0, 1, 3), (0, 5, 8), (0, 9, 10), (0, 10, 11)];
+    requests.extend([4, 5].map(|count| sample(28).with_windows(&windows[..count]).bytes()));
     let mut more = |count: usize, such: &dyn Fn(&[u8]) -> bool| {
         requests.extend(drawn.by_ref().filter(|request| such(request)).take(count));
     };
     more(GAPS, &fills_a_gap);
     more(BILLED, &bills_a_minimum);
     more(TURNED, &turned_by_minimums);
+    more(WAITING, &waits_for_a_window);
+    more(TURNED_BY_WINDOWS, &turned_by_windows);
     // Refusal 7 cannot be had from the printed text.
     for number in REFUSALS.into_iter().filter(|&number| number != 7) {
         more(REFUSED, &|request| refusal(request).is_some_and(|(given, _)| given == number));
     }
-    for number in [1, 2, 3, 4] {
-        more(REFUSED_AT_Q, &|request| {
-            refusal(request).is_some_and(|(given, place)| {
-                given == number && request.get(place as usize) == Some(&b'Q')
-            })
-        });
+    for (kind, count) in [(b'Q', REFUSED_AT_Q), (b'M', REFUSED_AT_M)] {
+        for number in [1, 2, 3, 4] {
+            more(count, &|request| {
+                refusal(request).is_some_and(|(given, place)| {
+                    given == number && request.get(place as usize) == Some(&kind)
+                })
+            });
+        }
     }
     requests
 }
