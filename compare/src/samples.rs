@@ -9,11 +9,14 @@ pub fn all() -> Vec<(&'static str, Vec<u8>)> {
     semicolon[15] = b';';
     // Processor 1 bills at least 10 for a task.
     let minimum = sample(28).with_minimums(&[None, Some(10)]);
+    // Each processor is down once.
+    let windows = sample(28).with_windows(&[(0, 7, 9), (1, 4, 30)]);
     vec![
         ("s28", sample(28).bytes()),
         ("semicolon", semicolon),
         ("gap", gap().bytes()),
         ("minimum", minimum.bytes()),
+        ("windows", windows.bytes()),
         ("ten", ten().bytes()),
     ]
 }
