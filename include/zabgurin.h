@@ -39,7 +39,7 @@ enum { ZABGURIN_MOST_TEXT = 2145 };
 
 /* A request that passes reading has at most so many bytes; a longer one is refused with 1 to 6. What comes after the first 16,384 bytes changes no answer, so a buffer of
    that size will do for any input. */
-enum { ZABGURIN_MOST_REQUEST = 8413 };
+enum { ZABGURIN_MOST_REQUEST = 9053 };
 
 /* How a request is answered. number is 0 for a plan: then the plan has `tasks` rows, ends at minute `length`, costs `cost` and leaves `left` of the budget, and
    place is 0. Else number is that of the refusal, 1 to 9 or 11, with its place, and the other four are 0:
@@ -47,8 +47,8 @@ enum { ZABGURIN_MOST_REQUEST = 8413 };
     number                                                         place
     1   the input ends too early                                   offset of the record that is not whole
     2   another record is due                                      offset of the record
-    3   another number is due, or an edge out of order             offset of the record
-    4   a number out of its range, or a 513th edge                 offset of the record
+    3   another number is due, or an edge or window out of order   offset of the record
+    4   a number out of its range, a 513th edge or a fifth window  offset of the record
     5   a bad label                                                offset of the task's record
     6   bytes after the end                                        offset of the first of them
     7   fewer rows lent than there are tasks                       the number of tasks
@@ -65,7 +65,8 @@ struct zabgurin_answer {
 };
 
 /* Plans a request. Row i of the plan is the i-th number of each of four buffers: the processor of task i, the minutes at which it starts and is finished, and its
-   cost. As many rows are lent as the shortest buffer has numbers. A plan writes rows 0 to tasks - 1 and keeps what stands after them; a refusal writes nothing. */
+   cost. No row overlaps another one, or a window, of its processor. As many rows are lent as the shortest buffer has numbers. A plan writes rows 0 to tasks - 1 and keeps
+   what stands after them; a refusal writes nothing. */
 struct zabgurin_answer zabgurin_plan(const uint8_t *request, size_t request_len, uint64_t *processors, size_t processors_len, uint64_t *starts,
                                      size_t starts_len, uint64_t *finishes, size_t finishes_len, uint64_t *costs, size_t costs_len);
 
@@ -87,8 +88,9 @@ struct zabgurin_part zabgurin_label(const uint8_t *request, size_t request_len, 
 /* What reading a request says. number is 0 for a good request, with its numbers (a deadline of 0 is none) and the offsets at which its parts begin: the records of the
    processors, the tasks, and the edges, or the end where there are none. Else number is that of the refusal, 1 to 6, with its place, and all else is 0.
 
-   The processors' records stand from prices_at to tasks_at in the order of the processors, for each a P of 3 bytes or a Q of 5. So the record of a processor is found
-   from the one before it, by its letter. */
+   The processors' records stand from prices_at on in the order of the processors, for each a P of 3 bytes or a Q of 5. So the record of a processor is found from the one
+   before it, by its letter. Behind the last of them stand the windows, if there are any, each an M of 10 bytes, up to tasks_at: by rising processor, and those of one
+   processor by rising begin. */
 struct zabgurin_reading {
     uint64_t number;
     size_t place;

@@ -17,7 +17,7 @@ pub const MOST_TASKS: usize = 64;
 pub const MOST_TEXT: usize = 2_145;
 
 /// A request that passes reading has at most so many bytes; a longer one is refused with 1 to 6. What comes after the first 16,384 bytes changes no answer.
-pub const MOST_REQUEST: usize = 8_413;
+pub const MOST_REQUEST: usize = 9_053;
 
 /// Where a task runs, from when to when, and what it costs.
 #[derive(Clone, Copy, Debug, Default, PartialEq, Eq)]
@@ -144,8 +144,9 @@ pub struct Reading {
     pub budget: u64,
     /// 0 without one.
     pub deadline: u64,
-    /// Where the records of the processors begin: for each, in their order, a `P` of 3 bytes or a `Q` of 5, up to `tasks_at`. So the record of a processor is found
-    /// from the one before it, by its letter.
+    /// Where the records of the processors begin: for each, in their order, a `P` of 3 bytes or a `Q` of 5. So the record of a processor is found from the one before
+    /// it, by its letter. Behind the last of them stand the windows, if there are any, each an `M` of 10 bytes, up to `tasks_at`: by rising processor, and those of one
+    /// processor by rising begin.
     pub prices_at: usize,
     /// Where the records of the tasks begin.
     pub tasks_at: usize,

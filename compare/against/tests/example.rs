@@ -1,7 +1,7 @@
 //! The example for C, built with the header and the proved library, prints what the independent program prints.
 use compare::random::{Damage, Random};
 use compare::samples;
-use compare::shapes::{shaped, Budget, Deadline, Graph, Minimums, Numbers};
+use compare::shapes::{shaped, Budget, Deadline, Graph, Minimums, Numbers, WINDOWS};
 use std::io::Write;
 use std::process::{Command, Stdio};
 
@@ -31,8 +31,10 @@ fn the_samples() {
 #[test]
 fn large_and_damaged_requests() {
     let mut random = Random(0xc0de_5eed_0000_0001);
-    let shape = (Graph::Dense, Numbers::Any, Budget::Tight, Deadline::None, Minimums::Near);
-    for damage in Damage::ALL {
+    for (k, damage) in Damage::ALL.into_iter().enumerate() {
+        let (numbers, windows) = (Numbers::Any, WINDOWS[k % WINDOWS.len()]);
+        let (budget, deadline, least) = (Budget::Tight, Deadline::None, Minimums::Near);
+        let shape = (Graph::Dense, numbers, budget, deadline, least, windows);
         let mut request = shaped(&mut random, (64, 16), shape).bytes();
         assert_eq!(printed(&request), compare::text(&request), "{request:?}");
         damage.to(&mut random, &mut request);

@@ -2,8 +2,9 @@
 //! for damaged ones, with any number of rows lent.
 use against::{columns_before, Columns, Driver};
 use compare::build::{sample, Draft};
-use compare::random::{Damage, Random};
-use compare::shapes::{bills_a_minimum, fills_a_gap, of_every_shape, turned_by_minimums, SHAPES};
+use compare::random::{windows_of, Damage, Random};
+use compare::shapes::{bills_a_minimum, fills_a_gap, of_every_shape, turned_by_minimums};
+use compare::shapes::{turned_by_windows, waits_for_a_window, SHAPES, WINDOWS};
 use compare::{Row, REFUSALS};
 use std::collections::BTreeMap;
 
@@ -82,6 +83,32 @@ fn the_sample() {
     }
 }
 
+/// The sample with a window at every place of either processor, from one minute to twelve.
+#[test]
+fn the_sample_with_a_window_anywhere() {
+    let windows = (0..2).flat_map(|j| {
+        (0..24).flat_map(move |begin| (1..=12).map(move |minutes| (j, begin, begin + minutes)))
+    });
+    let requests = windows.flat_map(|window| {
+        [23, 24, 28, 100].map(|budget| sample(budget).with_windows(&[window]).bytes())
+    });
+    each_often(&agree(requests.map(|request| (request, [3; 4]))), &[0, 9], 500);
+}
+
+/// One processor with up to four windows in its first minutes, and five tasks of a minute to six.
+#[test]
+fn windows_around_the_minutes() {
+    let mut random = Random(0x600d_5eed_0000_0004);
+    let requests = (0..20_000).map(|_| {
+        let minutes: Vec<u16> = (0..5).map(|_| random.within(1, 6) as u16).collect();
+        let of_tasks: Vec<&[u16]> = minutes.chunks(1).collect();
+        let count = random.within(0, 4);
+        let windows = windows_of(&mut random, 0, count, (0, 24));
+        (Draft::new(0, &[0], &of_tasks, &[]).with_windows(&windows).bytes(), [5; 4])
+    });
+    each_often(&agree(requests), &[0], 20_000);
+}
+
 /// One processor, one task of 12 by its minutes, and minimums around that; and with a price of 0.
 #[test]
 fn minimums_around_the_minutes() {
@@ -101,42 +128,52 @@ fn minimums_around_the_minutes() {
 #[test]
 fn good_requests_of_every_shape() {
     let mut random = Random(0x600d_5eed_0000_0001);
-    let (mut gaps, mut billed, mut turned) = (0, 0, 0);
-    let met = agree(good(0x600d_5eed_0000_0002, 9 * SHAPES).map(|(request, n)| {
+    let (mut gaps, mut billed, mut turned, mut waiting, mut moved) = (0, 0, 0, 0, 0);
+    let met = agree(good(0x600d_5eed_0000_0002, WINDOWS.len() * SHAPES).map(|(request, n)| {
         let lent = lent(&mut random, n);
         if lent.iter().all(|&rows| rows >= n) {
             gaps += usize::from(fills_a_gap(&request));
             billed += usize::from(bills_a_minimum(&request));
             turned += usize::from(turned_by_minimums(&request));
+            waiting += usize::from(waits_for_a_window(&request));
+            moved += usize::from(turned_by_windows(&request));
         }
         (request, lent)
     }));
     each_often(&met, &[0, 7, 8, 9, 11], 1_000);
     println!("{gaps} plans have a task in a gap");
     println!("{billed} have one that is billed a minimum, {turned} are others without minimums");
+    println!(
+        "{waiting} have one that starts where a window ends, {moved} are others without windows"
+    );
     assert!(gaps >= 2_000, "{gaps} plans have a task in a gap");
     assert!(billed >= 2_000, "{billed} plans have a task that is billed a minimum");
     assert!(turned >= 2_000, "{turned} plans are others without minimums");
+    assert!(waiting >= 3_000, "{waiting} plans have a task that starts where a window ends");
+    assert!(moved >= 4_000, "{moved} plans are others without windows");
 }
 
 #[test]
 fn damaged_requests() {
     let mut random = Random(0xda4a_6ed0_0000_0001);
-    let mut at_q = Met::new();
-    let met =
-        agree(good(0xda4a_6ed0_0000_0002, 9 * SHAPES).enumerate().map(|(k, (mut request, n))| {
-            Damage::ALL[k % Damage::ALL.len()].to(&mut random, &mut request);
-            let lent = lent(&mut random, n);
-            if let Err(refusal) = compare::read(&request) {
-                if request.get(refusal.place as usize) == Some(&b'Q') {
-                    *at_q.entry(refusal.number).or_default() += 1;
-                }
+    let (mut at_q, mut at_m) = (Met::new(), Met::new());
+    let good = good(0xda4a_6ed0_0000_0002, WINDOWS.len() * SHAPES);
+    let met = agree(good.enumerate().map(|(k, (mut request, n))| {
+        Damage::ALL[k % Damage::ALL.len()].to(&mut random, &mut request);
+        let lent = lent(&mut random, n);
+        if let Err(refusal) = compare::read(&request) {
+            match request.get(refusal.place as usize) {
+                Some(b'Q') => *at_q.entry(refusal.number).or_default() += 1,
+                Some(b'M') => *at_m.entry(refusal.number).or_default() += 1,
+                _ => {}
             }
-            (request, lent)
-        }));
+        }
+        (request, lent)
+    }));
     each_often(&met, &[0, 1, 2, 3, 4, 5, 6, 7, 8, 9, 11], 30);
-    println!("at a Q: {at_q:?}");
+    println!("at a Q: {at_q:?}; at an M: {at_m:?}");
     each_often(&at_q, &[1, 2, 3, 4, 6], 30);
+    each_often(&at_m, &[1, 2, 3, 4, 6], 30);
 }
 
 #[test]

@@ -1,13 +1,15 @@
 //! The exported reader and label lookup against the independent program: random good requests up to the full size,
-//! damaged ones of every kind, every cut, every byte and every number of two bytes, too many edges, noise.
+//! damaged ones of every kind, every cut, every byte and every number of two bytes, too many edges, windows in any
+//! order, noise.
 use against::{Driver, Reading};
-use compare::build::{d, e, p, q, sample, t, w, z, Draft};
-use compare::random::{sized, Damage, Random};
-use compare::{Edge, Refusal, Workflow, MOST_BYTES};
+use compare::build::{d, e, m, p, q, sample, t, w, z, Draft};
+use compare::random::{sized, windows_of, Damage, Random};
+use compare::{Edge, Refusal, Window, Workflow, MOST_BYTES};
 
 // The sizes of the rules' records, with the kind byte.
 const P: usize = 3;
 const Q: usize = 5;
+const M: usize = 10;
 const T: usize = 10;
 const W: usize = 5;
 const E: usize = 5;
@@ -78,6 +80,7 @@ fn workflow(request: &[u8], reading: &Reading, labels: &[&[u8]]) -> Workflow {
         assert_eq!(found, Some(record), "at {at} of request {request:?}");
     };
     let two = |at: usize| u32::from(u16::from_le_bytes([request[at], request[at + 1]]));
+    let four = |at: usize| two(at) | two(at + 2) << 16;
     let &Reading { tasks: n, processors: m, prices_at, tasks_at, edges_at, edges, .. } = reading;
     // A `Q` is longer than a `P`, so the record of a processor is found from the one before it.
     let (mut at, mut prices, mut minimums) = (prices_at, Vec::new(), Vec::new());
@@ -87,6 +90,17 @@ fn workflow(request: &[u8], reading: &Reading, labels: &[&[u8]]) -> Workflow {
         prices.push(request[at + 2].into());
         minimums.push(if has_minimum { two(at + 3) } else { 0 });
         at += if has_minimum { Q } else { P };
+    }
+    // Behind them stand the windows, up to the tasks.
+    let mut windows = Vec::new();
+    while at < tasks_at {
+        begins(at, b"M");
+        windows.push(Window {
+            processor: request[at + 1].into(),
+            begin: four(at + 2),
+            end: four(at + 6),
+        });
+        at += M;
     }
     assert_eq!(at, tasks_at, "request {request:?}");
     let task = |i: usize| tasks_at + i * (T + m * W);
@@ -116,6 +130,7 @@ fn workflow(request: &[u8], reading: &Reading, labels: &[&[u8]]) -> Workflow {
         deadline: (reading.deadline != 0).then(|| reading.deadline.try_into().unwrap()),
         prices,
         minimums,
+        windows,
         minutes: (0..n)
             .flat_map(|i| (0..m).map(move |j| (i, j)))
             .map(|(i, j)| minutes(i, j))
@@ -125,15 +140,26 @@ fn workflow(request: &[u8], reading: &Reading, labels: &[&[u8]]) -> Workflow {
     }
 }
 
-/// Small ones mostly; some of any size, and some of the full one, half of these with 16 `Q`.
+/// Four windows for each of 16 processors.
+fn four_for_each(random: &mut Random) -> Vec<(u8, u32, u32)> {
+    (0..16).flat_map(|j| windows_of(random, j, 4, (0, 20_000))).collect()
+}
+
+/// Small ones mostly, some of them the smallest; some of any size, and some of the full one, half of these with 16 `Q` and
+/// 64 windows.
 fn good(random: &mut Random) -> Draft {
     match random.within(1, 40) {
         1 | 2 => {
             let mut draft = sized(random, 64, 16, 512);
             if random.one_in(2) {
                 draft.minimums = vec![Some(random.often_an_end(0, 10_000) as u16); 16];
+                draft.windows = four_for_each(random);
             }
             draft
+        }
+        6 => {
+            let draft = sized(random, 1, 1, 0).with_minimums(&[None]).with_windows(&[]);
+            Draft { deadline: None, ..draft }
         }
         3..=5 => {
             let (n, m) = (random.often_an_end(1, 64), random.often_an_end(1, 16));
@@ -153,10 +179,12 @@ fn good_requests() {
     let mut random = Random(0x5eed_4ead_0000_0001);
     let (mut full, mut with_deadline, mut without) = (0, 0, 0);
     // How often a request has the lowest and the highest value of each range.
-    let mut ends = [("", [0; 2]); 10];
+    let mut ends = [("", [0; 2]); 14];
     let mut of_length = [0; 9];
     // How often a request has `P` alone, `Q` alone and both.
     let mut kinds = [0; 3];
+    // How often it has windows, and two that touch.
+    let (mut with_windows, mut touching) = (0, 0);
     let requests = (0..24_000).map(|_| {
         let draft = good(&mut random);
         let request = draft.bytes();
@@ -176,7 +204,15 @@ fn good_requests() {
         let minutes: Vec<u32> =
             draft.tasks.iter().flat_map(|task| &task.1).map(|&time| time.into()).collect();
         let transfers: Vec<u32> = draft.edges.iter().map(|edge| edge.2.into()).collect();
-        let ranges: [(&str, u32, u32, &[u32]); 10] = [
+        let begins: Vec<u32> = draft.windows.iter().map(|window| window.1).collect();
+        let ends_of_windows: Vec<u32> = draft.windows.iter().map(|window| window.2).collect();
+        let lengths: Vec<u32> = draft.windows.iter().map(|&(_, from, to)| to - from).collect();
+        let of = |j: usize| draft.windows.iter().filter(move |window| usize::from(window.0) == j);
+        let counts: Vec<u32> = (0..sizes.1).map(|j| of(j).count() as u32).collect();
+        with_windows += usize::from(!draft.windows.is_empty());
+        let touch = |pair: &[(u8, u32, u32)]| (pair[0].0, pair[0].2) == (pair[1].0, pair[1].1);
+        touching += usize::from(draft.windows.windows(2).any(touch));
+        let ranges: [(&str, u32, u32, &[u32]); 14] = [
             ("n", 1, 64, &[sizes.0 as u32]),
             ("m", 1, 16, &[sizes.1 as u32]),
             ("edges", 0, 512, &[sizes.2 as u32]),
@@ -184,6 +220,10 @@ fn good_requests() {
             ("deadline", 1, 200_000, draft.deadline.as_slice()),
             ("price", 0, 100, &prices),
             ("minimum", 0, 10_000, &minimums),
+            ("begin", 0, 19_999, &begins),
+            ("end", 1, 20_000, &ends_of_windows),
+            ("minutes of a window", 1, 20_000, &lengths),
+            ("windows of a processor", 0, 4, &counts),
             ("minutes", 1, 2_000, &minutes),
             ("transfer", 0, 1_000, &transfers),
             ("bytes", 26, MOST_BYTES as u32, &[request.len() as u32]),
@@ -200,6 +240,7 @@ fn good_requests() {
     });
     assert!(agree(requests).iter().all(|&number| number == 0));
     println!("{full} full, {with_deadline} with a deadline, {without} without; ends {ends:?}; kinds {kinds:?}; labels {of_length:?}");
+    println!("{with_windows} with windows, {touching} with windows that touch");
     assert!(full >= 500, "{full} full");
     assert!(
         with_deadline >= 10_000 && without >= 10_000,
@@ -207,6 +248,7 @@ fn good_requests() {
     );
     assert!(ends.iter().all(|end| end.1[0] >= 200 && end.1[1] >= 200), "{ends:?}");
     assert!(kinds.iter().all(|&seen| seen >= 4_000), "{kinds:?}");
+    assert!(with_windows >= 12_000 && touching >= 2_000, "{with_windows}, {touching}");
     assert!(of_length[1..].iter().all(|&seen| seen >= 10_000), "{of_length:?}");
 }
 
@@ -244,9 +286,10 @@ fn every_cut() {
     let mut drafts = vec![
         sample(28),
         sample(28).with_minimums(&[None, Some(10)]),
+        sample(28).with_windows(&[(0, 7, 9), (1, 4, 30)]),
         sized(&mut random, 1, 1, 0),
-        full.clone().with_minimums(&[None; 16]),
-        full.with_minimums(&[Some(10_000); 16]),
+        full.clone().with_minimums(&[None; 16]).with_windows(&[]),
+        full.with_minimums(&[Some(10_000); 16]).with_windows(&four_for_each(&mut random)),
     ];
     drafts.extend((0..200).map(|_| sized(&mut random, 3, 2, 4)));
     for mut draft in drafts {
@@ -261,14 +304,19 @@ fn every_cut() {
     }
 }
 
-/// The sample without minimums and with them, each without a deadline and with one.
+/// The sample without minimums and windows and with them, each without a deadline and with one.
 #[test]
 fn every_byte_of_the_sample() {
-    let samples = [[None; 2], [None, Some(10)], [Some(9), Some(0)]].into_iter();
-    let samples = samples.flat_map(|minimums| [None, Some(14)].map(|to| (minimums, to)));
-    let requests = samples.flat_map(|(minimums, deadline)| {
-        let mut draft = sample(28).with_minimums(&minimums);
-        draft.deadline = deadline;
+    let drafts = [
+        sample(28),
+        sample(28).with_minimums(&[None, Some(10)]),
+        sample(28).with_minimums(&[Some(9), Some(0)]),
+        sample(28).with_windows(&[(0, 7, 9), (1, 4, 30)]),
+        sample(28).with_windows(&[(0, 0, 1), (0, 1, 258), (0, 259, 1_000), (0, 5_000, 20_000)]),
+    ];
+    let drafts = drafts.iter().flat_map(|draft| [None, Some(14)].map(|to| (draft, to)));
+    let requests = drafts.flat_map(|(draft, deadline)| {
+        let draft = Draft { deadline, ..draft.clone() };
         let request = draft.bytes();
         (0..request.len() * 256).map(move |k| {
             let mut changed = request.clone();
@@ -278,13 +326,15 @@ fn every_byte_of_the_sample() {
     });
     let met = met(&agree(requests));
     println!("{met:?}");
-    assert_eq!(met.iter().sum::<usize>(), (84 + 89 + 86 + 91 + 88 + 93) * 256);
-    // 1 needs `Z` turned into `E`, and 6 one of the two `E` turned into `Z`, in each of the six requests.
-    assert_eq!((met[1], met[6]), (6, 12));
+    let bytes = 84 + 89 + 86 + 91 + 88 + 93 + 104 + 109 + 124 + 129;
+    assert_eq!(met.iter().sum::<usize>(), bytes * 256);
+    // 1 needs `Z` turned into `E`, and 6 one of the two `E` turned into `Z`, in each of the ten requests.
+    assert_eq!((met[1], met[6]), (10, 20));
     assert!([0, 2, 3, 4, 5].iter().all(|&number| met[number] >= 1_000), "{met:?}");
 }
 
-/// All values of minutes, transfer and minimum; of budget and deadline those at the ends of the range and of each byte.
+/// All values of minutes, transfer and minimum; of budget, deadline and a window's begin and end those at the ends of the
+/// range and of each byte.
 #[test]
 fn every_number_of_more_bytes() {
     let mut all = Vec::new();
@@ -313,6 +363,12 @@ fn every_number_of_more_bytes() {
     let values: Vec<u32> = ends.into_iter().flat_map(near).chain(random).collect();
     within("budget", 0, 20_000_000, &values, |draft, value| draft.budget = value);
     within("deadline", 1, 200_000, &values, |draft, value| draft.deadline = Some(value));
+    let near_the_end: Vec<u32> = near(20_000).chain(values).collect();
+    let values = &near_the_end[..];
+    within("begin", 0, 19_999, values, |draft, value| draft.windows = vec![(1, value, 20_000)]);
+    within("begin", 0, 300, values, |draft, value| draft.windows = vec![(0, value, 301)]);
+    within("end", 1, 20_000, values, |draft, value| draft.windows = vec![(1, 0, value)]);
+    within("end", 258, 20_000, values, |draft, value| draft.windows = vec![(0, 257, value)]);
     let met = met(&all);
     println!("{met:?}");
     assert!(met[0] >= 10_000 && met[4] >= 100_000, "{met:?}");
@@ -348,28 +404,98 @@ fn edges_past_the_limit() {
     }
 }
 
-/// Up to 64 bytes: a header that passes, or more of the front of a good request, and behind it bytes of any sort or
+/// Lists of windows for two processors, most of them in order: a few small numbers, and now and then one past its range.
+#[test]
+fn windows_in_any_order() {
+    let mut random = Random(0x5eed_4ead_0000_0007);
+    let requests = (0..60_000).map(|_| {
+        let mut windows: Vec<(u8, u32, u32)> = Vec::new();
+        for _ in 0..random.within(1, 12) {
+            let j = random.one_of(&[0, 0, 0, 0, 0, 0, 1, 1, 1, 1, 1, 1, 2, 255]);
+            let begin = random.within(0, 40) as u32 * random.one_of(&[1, 1, 1, 64]);
+            let end = match random.within(1, 16) {
+                1 => begin,
+                2 => begin.wrapping_sub(1),
+                3 => random.one_of(&[20_000, 20_001, u32::MAX]),
+                _ => begin + random.within(1, 6) as u32,
+            };
+            windows.push((j, begin, end));
+        }
+        if !random.one_in(6) {
+            windows.sort();
+        }
+        sample(28).with_windows(&windows).bytes()
+    });
+    let met = met(&agree(requests));
+    println!("{met:?}");
+    assert!([0, 3, 4].iter().all(|&number| met[number] >= 5_000), "{met:?}");
+}
+
+/// A window's order is looked at before its ranges, and these before it is counted, but only when it is whole.
+#[test]
+fn windows_past_the_limit() {
+    let mut random = Random(0x5eed_4ead_0000_0008);
+    let mut cases = Vec::new();
+    let mut expect = |number: usize, request: &[u8]| cases.push((number, request.to_vec()));
+    for round in 0..200 {
+        let processors = random.often_an_end(1, 16);
+        let j = random.often_an_end(0, processors - 1) as usize;
+        let mut draft = sized(&mut random, 2, processors, 1);
+        draft.windows = windows_of(&mut random, j, 4, (0, 19_000 + round));
+        expect(0, &draft.bytes());
+        let (last, before) = (draft.windows[3].2, draft.windows[3].1);
+        let (j, m) = (j as u8, processors as u8);
+        let more = [
+            (4, (j, last, last + 1)),
+            (4, (j, last, 20_001)),
+            (4, (j, last, last)),
+            (4, (m, 0, 1)),
+            (3, (j, last - 1, last + 1)),
+            (3, (j, last - 1, 20_001)),
+            (3, (j, before, before)),
+        ];
+        for (number, window) in more {
+            draft.windows.push(window);
+            let request = draft.bytes();
+            expect(number, &request);
+            let records = draft.records();
+            let fifth = records.iter().rposition(|record| record[0] == b'M').expect("a window");
+            let end = records[..=fifth].concat().len();
+            for cut in 1..=M {
+                expect(1, &request[..end - cut]);
+            }
+            draft.windows.pop();
+        }
+    }
+    let numbers = agree(cases.iter().map(|(_, request)| request.clone()));
+    for ((wanted, request), number) in cases.iter().zip(numbers) {
+        assert_eq!(number, *wanted, "request {request:?}");
+    }
+}
+
+/// Up to 80 bytes: a header that passes, or more of the front of a good request, and behind it bytes of any sort or
 /// whole records with small numbers.
 #[test]
 fn noise_behind_a_header() {
     let mut random = Random(0x5eed_4ead_0000_0006);
     let requests = (0..300_000).map(|_| {
-        let (n, m) = (random.within(1, 2), random.within(1, 2));
-        let records = sized(&mut random, n, m, 2).records();
+        let (n, processors) = (random.within(1, 2), random.within(1, 2));
+        let records = sized(&mut random, n, processors, 2).records();
         let kept = random.often_an_end(1, records.len() as u64) as usize;
         let mut request = records[..kept].concat();
-        let (sort, length) = (random.within(1, 4), random.within(7, 64) as usize);
+        let (sort, length) = (random.within(1, 4), random.within(7, 80) as usize);
         while request.len() < length {
             let [a, b, c] = [(); 3].map(|()| random.within(0, 2) as u8);
-            match (sort, random.within(1, 6)) {
+            match (sort, random.within(1, 7)) {
                 (1, _) => request.push(random.number() as u8),
-                (2, _) => request.push(random.one_of(b"DPQTWEZ\0\x01\x02 a")),
+                (2, _) => request.push(random.one_of(b"DPQMTWEZ\0\x01\x02 a")),
                 (_, 1) => request.extend(d(c.into())),
                 (_, 2) if random.one_in(2) => request.extend(p(a, b)),
                 (_, 2) => request.extend(q(a, b, random.one_of(&[0, 1, 10_000, 10_001]))),
                 (_, 3) => request.extend(t(a, &b"aZ-"[..usize::from(b)])),
                 (_, 4) => request.extend(w(a, b, c.into())),
                 (_, 5) => request.extend(e(a, b, c.into())),
+                (_, 6) => request.extend(m(a, b.into(), random.one_of(&[0, 1, 3, 20_000, 20_001]))),
                 _ => request.extend(z()),
             }
         }

@@ -1,5 +1,5 @@
 //! The Rust wrapper against the independent program: plans, texts, labels and readings of good and damaged requests.
-use compare::random::{sized, Damage, Random};
+use compare::random::{sized, windows_of, Damage, Random};
 use compare::shapes::{shape, shaped, SHAPES};
 use compare::{Answer, Row, MOST_BYTES};
 use std::fs;
@@ -56,9 +56,12 @@ fn good_and_damaged_requests() {
 #[test]
 fn the_most() {
     assert_eq!(MOST_REQUEST, MOST_BYTES);
-    let mut draft = sized(&mut Random(0x57a9_9e45_0000_0002), MOST_TASKS as u64, 16, 512);
+    let mut random = Random(0x57a9_9e45_0000_0002);
+    let mut draft = sized(&mut random, MOST_TASKS as u64, 16, 512);
     draft.deadline = Some(200_000);
     draft.minimums = vec![Some(10_000); 16];
+    let four = |j| windows_of(&mut random, j, 4, (0, 20_000));
+    draft.windows = (0..16).flat_map(four).collect();
     let mut request = draft.bytes();
     assert_eq!(request.len(), MOST_REQUEST);
     assert_eq!(zabgurin::read(&request).number, 0);
