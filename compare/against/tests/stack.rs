@@ -3,9 +3,9 @@
 use against::frames::Library;
 use against::{Call, Driver};
 use compare::build::Draft;
-use compare::random::{Damage, Random};
-use compare::shapes::{shaped, Budget, Deadline, Graph, Minimums, Numbers};
-use compare::shapes::{BUDGETS, DEADLINES, GRAPHS, MINIMUMS, NUMBERS};
+use compare::random::{windows_of, Damage, Random};
+use compare::shapes::{shaped, Budget, Deadline, Graph, Minimums, Numbers, Windows};
+use compare::shapes::{BUDGETS, DEADLINES, GRAPHS, MINIMUMS, NUMBERS, WINDOWS};
 use compare::{MOST_BYTES, REFUSALS};
 use std::collections::{BTreeMap, BTreeSet};
 use std::fs;
@@ -45,9 +45,9 @@ fn document(name: &str) -> String {
     fs::read_to_string(path).unwrap_or_else(|error| panic!("{name}: {error}"))
 }
 
-/// Requests of 64 tasks and 16 processors: of every shape, the dense ones with 512 edges, with one sort of minimums after
-/// the other; one of as many bytes as a request can have; and two with cycles through all tasks. In the first of these
-/// each task waits for the one before it, in the second for the eight before it: 512 edges.
+/// Requests of 64 tasks and 16 processors: of every shape, the dense ones with 512 edges, with one sort of minimums and of
+/// windows after the other; one of as many bytes as a request can have; and two with cycles through all tasks. In the
+/// first of these each task waits for the one before it, in the second for the eight before it: 512 edges.
 fn largest(random: &mut Random) -> Vec<Draft> {
     let mut drawn = |shape| shaped(random, (MOST_TASKS, 16), shape);
     let mut drafts = Vec::new();
@@ -57,7 +57,9 @@ fn largest(random: &mut Random) -> Vec<Draft> {
                 for deadline in DEADLINES {
                     // One further for each of the numbers, so that a sort does not always have the same deadline.
                     let turn = drafts.len() + drafts.len() / (BUDGETS.len() * DEADLINES.len());
-                    let shape = (graph, numbers, budget, deadline, MINIMUMS[turn % MINIMUMS.len()]);
+                    let (least, down) = (turn % MINIMUMS.len(), turn % WINDOWS.len());
+                    let (least, down) = (MINIMUMS[least], WINDOWS[down]);
+                    let shape = (graph, numbers, budget, deadline, least, down);
                     let mut draft = drawn(shape);
                     while graph == Graph::Dense && draft.edges.len() < 512 {
                         draft = drawn(shape);
@@ -72,11 +74,15 @@ fn largest(random: &mut Random) -> Vec<Draft> {
     most.budget = 20_000_000;
     most.deadline = Some(200_000);
     most.minimums = vec![Some(10_000); 16];
+    let mut windows = Random(0x57ac_5eed_0000_0002);
+    let four = |j| windows_of(&mut windows, j, 4, (0, 20_000));
+    most.windows = (0..16).flat_map(four).collect();
     assert_eq!(most.bytes().len(), MOST_BYTES);
     drafts.push(most);
     for before in [1, 8] {
-        let shape = (Graph::Loose, Numbers::Any, Budget::Plenty, Deadline::None, Minimums::None);
-        let mut draft = drawn(shape);
+        let (budget, deadline) = (Budget::Plenty, Deadline::None);
+        let (least, down) = (Minimums::None, Windows::None);
+        let mut draft = drawn((Graph::Loose, Numbers::Any, budget, deadline, least, down));
         let edges = (0..64).flat_map(|i| (1..=before).map(move |k| (i, (i + k) % 64, 1_000)));
         draft.edges = edges.collect();
         draft.edges.sort();

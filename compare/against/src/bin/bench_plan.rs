@@ -1,9 +1,9 @@
 //! Times the exported planner against the independent program's, side by side: nanoseconds for one plan, the best of
-//! many rounds, from 8 tasks to 64, without minimums, and for 64 with them. `bench_plan proved 64 1000` makes so many
-//! plans by one of the two (`proved` or `plain`) and prints nothing, for a tool that counts instructions; `minimums` as
-//! a fourth word makes them with minimums.
+//! many rounds, from 8 tasks to 64, without minimums and windows, and for 64 with 16 minimums, with 64 windows and with
+//! both. `bench_plan proved 64 1000` makes so many plans by one of the two (`proved` or `plain`) and prints nothing, for
+//! a tool that counts instructions; the words `minimums` and `windows` behind that make them with these.
 use compare::build::Draft;
-use compare::random::{cheapest_total, Random};
+use compare::random::{cheapest_total, windows_of, Random};
 use compare::Row;
 use std::hint::black_box;
 use std::time::Instant;
@@ -11,9 +11,12 @@ use std::time::Instant;
 const ROUNDS: usize = 2_000;
 const PASSES: usize = 10;
 
+/// The windows end by then, which is about when the plan of 64 tasks ends without them.
+const WINDOWS_END: u64 = 18_000;
+
 /// So many tasks, numbered in any order, on 16 processors, with eight edges to a task or as many as there can be. All
-/// processors have a minimum, or none has; all else but the budget is the same then.
-fn request(n: usize, minimums: bool) -> Vec<u8> {
+/// processors have a minimum, or none has; all have four windows, or none has. All else but the budget is the same.
+fn request(n: usize, minimums: bool, windows: bool) -> Vec<u8> {
     let mut random = Random(0x5eed_9a17_be9c_0001);
     let mut draft = Draft::new(0, &[], &[], &[]);
     draft.prices = (0..16).map(|_| random.within(1, 100) as u8).collect();
@@ -43,6 +46,11 @@ fn request(n: usize, minimums: bool) -> Vec<u8> {
         draft.minimums = (0..16).map(|_| Some(random.within(0, 10_000) as u16)).collect();
     }
     draft.budget = (cheapest_total(&draft) * 5 / 4) as u32;
+    if windows {
+        let mut random = Random(0x5eed_9a17_be9c_0002);
+        let four = |j| windows_of(&mut random, j, 4, (0, WINDOWS_END));
+        draft.windows = (0..16).flat_map(four).collect();
+    }
     draft.bytes()
 }
 
@@ -62,14 +70,24 @@ fn main() {
     let words: Vec<String> = std::env::args().skip(1).collect();
     if let [by, n, plans, with @ ..] = &words[..] {
         let n = n.parse().expect("a number of tasks");
-        let request = request(n, with.first().is_some_and(|word| word == "minimums"));
+        let said = |name: &str| with.iter().any(|word| word == name);
+        let request = request(n, said("minimums"), said("windows"));
         for _ in 0..plans.parse::<usize>().expect("a number of plans") {
             black_box(if by == "proved" { proved(&request) } else { plain(&request) });
         }
         return;
     }
-    for (n, minimums) in [(8, false), (16, false), (32, false), (64, false), (64, true)] {
-        let request = request(n, minimums);
+    let cases = [
+        (8, false, false),
+        (16, false, false),
+        (32, false, false),
+        (64, false, false),
+        (64, true, false),
+        (64, false, true),
+        (64, true, true),
+    ];
+    for (n, minimums, windows) in cases {
+        let request = request(n, minimums, windows);
         assert_eq!(zabgurin::text(&request), compare::text(&request));
         let round = |plan: &dyn Fn(&[u8]) -> u64| {
             let start = Instant::now();
@@ -86,8 +104,9 @@ fn main() {
         let edges = (n * (n - 1) / 2).min(8 * n);
         let ratio = ours / theirs;
         let with = if minimums { ", 16 minimums" } else { "" };
+        let down = if windows { ", 64 windows" } else { "" };
         println!(
-            "{n} tasks, {edges} edges{with}: proved {ours:.0} ns, plain {theirs:.0} ns, ratio {ratio:.2}"
+            "{n} tasks, {edges} edges{with}{down}: proved {ours:.0} ns, plain {theirs:.0} ns, ratio {ratio:.2}"
         );
     }
 }

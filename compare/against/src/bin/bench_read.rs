@@ -1,7 +1,7 @@
 //! Times the exported reader and label lookup against the independent program's, side by side: nanoseconds for one
 //! request, the best of many rounds.
 use compare::build::{sample, Draft};
-use compare::random::{sized, Random};
+use compare::random::{sized, windows_of, Random};
 use compare::MOST_BYTES;
 use std::hint::black_box;
 use std::time::Instant;
@@ -35,11 +35,18 @@ fn compete<T, U>(
     println!("{name}, {bytes} bytes: proved {ours:.0} ns, plain {theirs:.0} ns, ratio {ratio:.2}");
 }
 
-/// The full request, with a deadline; every processor is a `P`, or every one a `Q`.
+/// The full request, with a deadline; every processor is a `P`, or every one a `Q`, and none has windows.
 fn full(minimum: Option<u16>) -> Draft {
     let mut draft = sized(&mut Random(0x5eed_4ead_be9c_0001), 64, 16, 512);
     draft.deadline = Some(200_000);
-    draft.with_minimums(&[minimum; 16])
+    draft.with_minimums(&[minimum; 16]).with_windows(&[])
+}
+
+/// The same with four windows for each processor.
+fn with_windows(draft: Draft) -> Draft {
+    let mut random = Random(0x5eed_4ead_be9c_0003);
+    let four = |j| windows_of(&mut random, j, 4, (0, 20_000));
+    draft.with_windows(&(0..16).flat_map(four).collect::<Vec<_>>())
 }
 
 /// 64 tasks with labels of eight bytes, and as little as can be besides.
@@ -47,6 +54,7 @@ fn labels() -> Draft {
     let mut draft = sized(&mut Random(0x5eed_4ead_be9c_0002), 64, 1, 0);
     draft.deadline = None;
     draft.minimums = vec![None];
+    draft.windows = Vec::new();
     for (label, _) in &mut draft.tasks {
         while label.len() < 8 {
             label.push('x');
@@ -56,14 +64,17 @@ fn labels() -> Draft {
 }
 
 fn main() {
-    let (full, longest) = (full(None).bytes(), full(Some(10_000)).bytes());
+    let longest = with_windows(full(Some(10_000))).bytes();
+    let (full, minimums) = (full(None).bytes(), full(Some(10_000)).bytes());
     let (labels, small) = (labels().bytes(), sample(28).bytes());
-    assert_eq!((full.len(), longest.len(), small.len()), (MOST_BYTES - 32, MOST_BYTES, 84));
-    for request in [&full, &longest, &labels, &small] {
+    let lengths = [full.len(), minimums.len(), longest.len(), small.len()];
+    assert_eq!(lengths, [MOST_BYTES - 672, MOST_BYTES - 640, MOST_BYTES, 84]);
+    for request in [&full, &minimums, &longest, &labels, &small] {
         assert!(zabgurin::read(request).number == 0 && compare::read(request).is_ok());
     }
     compete("read the full request", &full, zabgurin::read, compare::read);
-    compete("read it with 16 minimums", &longest, zabgurin::read, compare::read);
+    compete("read it with 16 minimums", &minimums, zabgurin::read, compare::read);
+    compete("read it with these and 64 windows", &longest, zabgurin::read, compare::read);
     compete("read one of labels", &labels, zabgurin::read, compare::read);
     compete("read S(28)", &small, zabgurin::read, compare::read);
     let last = |label: fn(&[u8], usize) -> &[u8]| move |request: &[u8]| label(request, 63).len();
