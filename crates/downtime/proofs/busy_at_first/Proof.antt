@@ -1,59 +1,122 @@
-use borrow.Author.Needs.{needs}
+-- The windows passed are kept, each among those of its processor.
+use Prim.Native.Nat.{_+_, _-_, _≤_, _<_}
+use mathlib.Core.Path.{_≡_}
+use native.Mathlib.Numerals.{add-one}
 use native.Mathlib.Omega.{arith}
+use Rattle.rules.specs.Workflow.{window-place, window-of, windows-on, workflow}
+use Rattle.good.specs.Good.{GoodWindow}
+use Rattle.good.specs.ReadIsGood.{read-is-good}
+use Rattle.reader.specs.Meaning.{meant-view}
+use Rattle.busy.specs.Kept.{InOrder, Keeps}
+use Rattle.busy.specs.KeptLaws.{first-at-most}
+use Rattle.busy.specs.Put.{WithInterval}
+use Rattle.busy.specs.PlaceLaws.{place-in-reach}
+use Rattle.busy.specs.KeepsLaws.{keeps-none, keeps-more}
+use borrow.Author.Needs.{needs}
 use Rattle.downtime.proofs.busy_at_first.Statement.{statement}
 use Rattle.downtime.proofs.busy_at_first.Tie as tie
-use Rattle.downtime.proofs.busy_at_first.Reads as reads
-use Rattle.downtime.proofs.busy_at_first.Lts as lts
-use Rattle.busy.proofs.insert.Reads as insert-reads
-use Rattle.busy.proofs.one_more.Reads as one-more-reads
-use Rattle.busy.proofs.position.Reads as position-reads
-use Rattle.lookup.proofs.window_of.Reads as window-of-reads
 
 abbrev Inv-loop : tie.InvT-loop
-Inv-loop s v processors₀ e₀ processors e = ?
+Inv-loop s v processors₀ e₀ processors e = (e ≤ v .windows) × Keeps (windows-on s (meant-view v) e) e processors
 
 abbrev μ-loop : tie.MeasureT-loop
-μ-loop s v processors₀ e₀ processors e = ?
+μ-loop s v processors₀ e₀ processors e = v .windows - e
 
--- src/lib.rt:19:5
 loop-holds : tie.Need-loop-holds Inv-loop μ-loop
-loop-holds c = ?
+unfolding windows-on
+loop-holds c = (omega arith, keeps-none)
 
--- src/lib.rt:20:13
 window-of-requires : tie.Need-window-of-requires Inv-loop μ-loop
-window-of-requires c κs = ?
+window-of-requires c κs = search needs
 
--- src/lib.rt:21:13
+-- The window in hand is a good one, of one of the 16, and there is room for it among those kept.
+in-hand : (w : tie.After-window-of Inv-loop μ-loop) →
+    let a = w .before .before .before .before .before .args in
+    GoodWindow (a .s .now) (a .v .processors) (window-place (meant-view (a .v)) (w .before .before .before .loop .e))
+in-hand w =
+    let start = w .before .before .before .before .before in
+    read-is-good (start .args .s .now) (start .pre) .window-in (w .before .before .before .loop .e) (w .before .if1 .taken)
+
+processor-below : (w : tie.After-window-of Inv-loop μ-loop) → w .window-of .result .processor < 16
+processor-below w =
+    let start = w .before .before .before .before .before in
+    omega (arith, w .window-of .ensures .0, in-hand w .processor-below, read-is-good (start .args .s .now) (start .pre) .processors-in)
+
+room : (w : tie.After-window-of Inv-loop μ-loop) → w .before .before .before .loop .e < 64
+room w =
+    let start = w .before .before .before .before .before in
+    omega (arith, w .before .if1 .taken, read-is-good (start .args .s .now) (start .pre) .windows-in)
+
+in-order : (w : tie.After-window-of Inv-loop μ-loop) →
+    let p = w .before .before .before .loop .processors in
+    InOrder (p .begins) (p .ends) (p .first)
+in-order w = w .before .before .before .loop .inv .1 .in-order
+
+in-reach : (c : tie.After-position Inv-loop μ-loop) → c .position .result ≤ c .before .before .before .before .before .before .before .loop .e
+in-reach c =
+    let w = c .before .before .before .before in
+    omega (arith, c .position .ensures, place-in-reach (in-order w) (processor-below w) (w .window-of .result .begin), w .before .before .before .loop .inv .1 .in-all)
+
 position-requires : tie.Need-position-requires Inv-loop μ-loop
-position-requires c κs = ?
+position-requires c κs =
+    let w = c .before .before .before in
+    (processor-below w, in-order w .first-rises _ (processor-below w), first-at-most (in-order w))
 
--- src/lib.rt:22:9
 insert-requires : tie.Need-insert-requires Inv-loop μ-loop
-insert-requires c κs = ?
+insert-requires c κs =
+    let w = c .before .before .before .before .before in
+    (in-order w .begins-size, in-reach (c .before), omega (arith, room w))
 
--- src/lib.rt:23:9
 insert-requires-2 : tie.Need-insert-requires-2 Inv-loop μ-loop
-insert-requires-2 c κs = ?
+insert-requires-2 c κs =
+    let w = c .before .before .before .before .before .before .before in
+    (in-order w .ends-size, in-reach (c .before .before .before), omega (arith, room w))
 
--- src/lib.rt:24:9
 one-more-requires : tie.Need-one-more-requires Inv-loop μ-loop
-one-more-requires c κs = ?
+one-more-requires c κs =
+    let w = c .before .before .before .before .before .before .before .before .before in
+    (in-order w .first-size, processor-below w, first-at-most (in-order w))
 
--- src/lib.rt:25:9
 add-e : tie.Need-add-e Inv-loop μ-loop
-add-e c = ?
+add-e c = search needs
 
--- src/lib.rt:19:5
 loop-less : tie.Need-loop-less Inv-loop μ-loop
-loop-less c = ?
+loop-less c = search needs
 
--- src/lib.rt:19:5
+-- What is kept once it is put there.
+put : (c : tie.After-one-more Inv-loop μ-loop) →
+    let w = c .before .before .before .before .before .before .before .before .before .before in
+    let loop = w .before .before .before .loop in
+    WithInterval (loop .e) (w .window-of .result .processor) (w .window-of .result .begin) (w .window-of .result .end) (loop .processors)
+    (record { begins = c .before .before .before .before .insert .last .0; ends = c .before .before .insert2 .last .0; first = c .one-more .last .0 })
+put c =
+    record {
+      place = c .before .before .before .before .before .before .position .result;
+      place-is = c .before .before .before .before .before .before .position .ensures;
+      begins-are = c .before .before .before .before .insert .ensures;
+      ends-are = c .before .before .insert2 .ensures;
+      first-are = c .one-more .ensures;
+    }
+
 loop-again : tie.Need-loop-again Inv-loop μ-loop
-loop-again c = ?
+unfolding windows-on window-of
+loop-again c =
+    let w = c .before .before .before .before .before .before .before .before .before .before in
+    let loop = w .before .before .before .loop in
+    let (processor, begin, end) = w .window-of .ensures in
+    let some : w .window-of .result .begin < w .window-of .result .end = omega (arith, in-hand w .has-minutes) in (
+      omega (arith, w .before .if1 .taken),
+      rw (add-one (loop .e), ← processor, ← begin, ← end)
+          (rw (add-one (loop .e)) at (keeps-more (loop .inv .1) (processor-below w) (omega (arith, room w)) some (put c))),
+    )
 
--- src/lib.rt:9:1
 returns : tie.Need-returns Inv-loop μ-loop
-returns c = ?
+unfolding workflow
+returns c =
+    let loop = c .before .before .loop in
+    let v = c .before .before .before .before .args .v in
+    let all : loop .e ≡ v .windows = omega (arith, loop .inv .0, c .if1 .left) in
+    rw all at (loop .inv .1)
 
 pub busy-at-first-spec : {M : Type 1} → statement M
 busy-at-first-spec =
