@@ -64,7 +64,7 @@ module _ {W : Workflow} (range : InRange W) {p : Processors} where
         }
 
 -- Ranks are the same however it begins.
-pub ranks-begun : {W : Workflow} {p : Processors} {clock : ℕ} {ranks : List ℕ} → RanksOf W ranks → RanksOf (begun (kept-by p) clock W) ranks
+pub ranks-begun : {W : Workflow} (p : Processors) (clock : ℕ) {ranks : List ℕ} → RanksOf W ranks → RanksOf (begun (kept-by p) clock W) ranks
 unfolding begun
-ranks-begun {W} {p} {clock} ranks-of =
+ranks-begun {W} p clock ranks-of =
     record { are = λ i l. ranks-of .are i l ∙ ap (λ R. R i) (sym (R-begun (kept-by p) clock W)); at-most = ranks-of .at-most }

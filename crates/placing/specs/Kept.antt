@@ -10,6 +10,7 @@ use Rattle.rules.specs.Rows as rules
 use Rattle.rules.specs.Rows.{Placed, is-placed, busy}
 use Rattle.laws.specs.Bounds.{first-most, added-most, cost-most}
 use Rattle.laws.specs.Unmarked.{sum-unmarked, count-unmarked}
+use Rattle.laws.specs.Stores.{at}
 use Rattle.busy.specs.Kept.{Keeps}
 use Rattle.placing.specs.Placed.{Columns}
 use Rattle.placing.specs.State.{State}
@@ -19,14 +20,17 @@ pub record Marks (rows : List Placed) (placed : List Bool) : Type 0 where
   pub size : length placed ≡ 64
   pub holds : (i : ℕ) → getD placed i false ≡ is-placed rows i
 
+-- How many intervals the processors are busy with.
+abbrev pub intervals : State → ℕ
+intervals state = at (state .processors .first) 16
+
 -- The rows of k tasks, and what the code keeps of them.
 pub record Kept (W : Workflow) (rows : List Placed) (k : ℕ) (state : State) : Type 0 where
   pub columns : Columns rows (state .sits) (state .starts) (state .ends) (state .costs)
   pub marks : Marks rows (state .placed)
   -- What the processors are busy with: at most 64 intervals at first, and k rows.
-  pub intervals : ℕ
-  pub processors : Keeps (busy W rows) intervals (state .processors)
-  pub few-intervals : intervals ≤ 64 + k
+  pub processors : Keeps (busy W rows) (intervals state) (state .processors)
+  pub few-intervals : intervals state ≤ 64 + k
   pub rb-is : state .rb ≡ W .budget - rules.spent rows
   pub spent-is : state .spent ≡ rules.spent rows
   pub rcb-is : state .rcb ≡ sum-unmarked (W .tasks) (is-placed rows) (lowest-cost W)

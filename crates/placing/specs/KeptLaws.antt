@@ -18,6 +18,7 @@ use Rattle.laws.specs.Orders.{higher-same, among-same}
 use Rattle.laws.specs.First.{first-same}
 use Rattle.laws.specs.Unmarked.{sum-unmarked-less, count-unmarked-at-first}
 use Rattle.laws.specs.NextTask.{next-task-free}
+use Rattle.laws.specs.Stores.{at}
 use Rattle.laws.specs.Filled.{AtMost}
 use Rattle.busy.specs.declared.Processors.{Processors}
 use Rattle.busy.specs.Kept.{Keeps, EndBy}
@@ -31,15 +32,14 @@ use Rattle.placing.specs.Arrays.{marks-first}
 
 -- At first no task is placed.
 pub kept-first :
-    (W : Workflow) {sits starts ends costs : List ℕ} {processors : Processors} {intervals rb rcb : ℕ} → Columns [] sits starts ends costs
-    → Keeps (W .busy-at-first) intervals processors → intervals ≤ 64 → rb ≡ W .budget → rcb ≡ cheapest-total W
+    (W : Workflow) {sits starts ends costs : List ℕ} {processors : Processors} {rb rcb : ℕ} → Columns [] sits starts ends costs
+    → Keeps (W .busy-at-first) (at (processors .first) 16) processors → at (processors .first) 16 ≤ 64 → rb ≡ W .budget → rcb ≡ cheapest-total W
     → Kept W [] 0 (without-rows sits starts ends costs processors rb rcb)
 unfolding is-placed busy spent length-of cheapest-total
-kept-first W {intervals = intervals} none keeps few budget cheapest =
+kept-first W none keeps few budget cheapest =
     record {
       columns = none;
       marks = marks-first;
-      intervals = intervals;
       processors = keeps;
       few-intervals = omega arith;
       rb-is = omega arith;

@@ -24,7 +24,7 @@ use Rattle.hand.specs.Hand.{row-by}
 use Rattle.hand.specs.declared.Row as code
 use Rattle.costs.specs.CostLaws.{cost-at-most}
 use Rattle.placing.specs.State.{State, meant-row, with-row}
-use Rattle.placing.specs.Kept.{Kept}
+use Rattle.placing.specs.Kept.{intervals, Kept}
 use Rattle.placing.specs.Arrays.{columns-more, marks-more}
 use Rattle.placing.specs.KeptHand.{takes, row-kept}
 use Rattle.placing.specs.KeptLaws.{next-free}
@@ -35,8 +35,8 @@ PutIn intervals before row after = WithInterval intervals (row .processor) (row 
 
 -- On any processor.
 kept-on :
-    {W : Workflow} {rows : List Placed} {k i to-come j : ℕ} {state : State} {after : Processors} → InRange W → (kept : Kept W rows k state) → k < W .tasks
-    → i ≡ next-task W (is-placed rows) → to-come ≡ RCB W rows i → j < W .processors → PutIn (kept .intervals) (state .processors) (row-on W rows i j) after
+    {W : Workflow} {rows : List Placed} {k i to-come j : ℕ} {state : State} {after : Processors} → InRange W → Kept W rows k state → k < W .tasks
+    → i ≡ next-task W (is-placed rows) → to-come ≡ RCB W rows i → j < W .processors → PutIn (intervals state) (state .processors) (row-on W rows i j) after
     → Kept W (record { task = i; row = row-on W rows i j } ∷ rows) (k + 1) (with-row state i (row-on W rows i j) to-come after)
 unfolding busy spent length-of is-placed RCB row-on start-of finish-of
 kept-on {W} {rows} {k} {i} {j = j} range kept more next to-come-is below put =
@@ -45,13 +45,13 @@ kept-on {W} {rows} {k} {i} {j = j} range kept more next to-come-is below put =
     let in-array : i < 64 = omega (arith, range .tasks-in) in
     let in-reach : j < 16 = omega (arith, range .processors-in) in
     let some : new .row .start < new .row .finish = omega (arith, range .minutes-least i j task below) in
+    let keeps = keeps-more (kept .processors) in-reach (omega (arith, kept .few-intervals, range .tasks-in)) some put in
     let fewer = sum-unmarked-less (is-placed rows) (λ t. 1) (W .tasks) i task free in
     record {
       columns = columns-more new rows (kept .columns) in-array;
       marks = marks-more new rows (kept .marks) in-array;
-      intervals = kept .intervals + 1;
-      processors = keeps-more (kept .processors) in-reach (omega (arith, kept .few-intervals, range .tasks-in)) some put;
-      few-intervals = omega (arith, kept .few-intervals);
+      processors = record { in-order = keeps .in-order; in-all = refl; holds = keeps .holds };
+      few-intervals = omega (arith, keeps .in-all, kept .few-intervals);
       rb-is = omega (arith, kept .rb-is);
       spent-is = ap (λ x. x + new .row .cost) (kept .spent-is);
       rcb-is = to-come-is;
@@ -87,6 +87,6 @@ module _ {M : Method} (among : ChoosesAmong M) {W : Workflow} (range : InRange W
   placed-more = ap (place M W) (add-one k) ∙ rw (← next)
 
   pub kept-more :
-      {after : Processors} → PutIn (kept .intervals) (state .processors) (meant-row r) after
+      {after : Processors} → PutIn (intervals state) (state .processors) (meant-row r) after
       → Kept W (place M W (k + 1)) (k + 1) (with-row state i (meant-row r) to-come after)
   kept-more put = rw (placed-more, row-is) (kept-on range kept more next to-come-is (takes among range (place M W k) i) (rw row-is at put))

@@ -44,7 +44,7 @@ fn too_late(deadline: Deadline, length: u64) -> bool
     }
 }
 
-// What the processors charge is read once. Then check 9, placing, and check 11, which takes the rows back.
+// What the processors charge is read once, and so are their windows. Then check 9, placing, and check 11, which takes the rows back.
 fn plan_ranked(
     s: &[u8],
     v: View,
@@ -67,6 +67,7 @@ fn plan_ranked(
             place: cheapest,
         };
     }
+    let outset = downtime::busy_at_first(s, v);
     let p = placing::place(
         s,
         v,
@@ -74,6 +75,8 @@ fn plan_ranked(
         &charges.minimums,
         ranks,
         cheapest,
+        outset,
+        0,
         processors,
         starts,
         finishes,

@@ -4,7 +4,8 @@ use mathlib.Core.Path.{_≡_, refl, ap, _∙_}
 use mathlib.Core.Bool.{Bool}
 use mathlib.Core.List.{List}
 use Rattle.rules.specs.Workflow.{Workflow, workflow}
-use Rattle.rules.specs.Ranks.{next-task}
+use Rattle.rules.specs.Ranks.{cost, lowest-cost, cheapest-total, next-task}
+use Rattle.rules.specs.Start.{arrival, arrived}
 use Rattle.rules.specs.Rows.{Placed, is-placed}
 use Rattle.rules.specs.Method.{HBCS}
 use Rattle.rules.specs.Placing.{RCB, place}
@@ -12,13 +13,16 @@ use Rattle.good.specs.Ranges.{InRange}
 use Rattle.lookup.specs.Lookup.{workflow-of}
 use Rattle.lookup.specs.Views.{view-in-range}
 use Rattle.laws.specs.Begun.{begun}
+use Rattle.laws.specs.Stores.{at}
 use Rattle.laws.specs.Method.{HBCS-chooses-among}
 use Rattle.links.specs.LinksLaws.{linked-first}
 use Rattle.costs.specs.CostLaws.{lowest-filled}
 use Rattle.busy.specs.declared.Processors.{Processors}
-use Rattle.busy.specs.Kept.{kept-by, InOrder}
+use Rattle.busy.specs.Kept.{room-most, kept-by, InOrder}
 use Rattle.busy.specs.KeptLaws.{first-at-most}
 use Rattle.busy.specs.PlaceLaws.{place-in-reach}
+use Rattle.busy.specs.KeepsLaws.{keeps-itself}
+use Rattle.hand.specs.Hand.{start-by, finish-by, question-by}
 use Rattle.placing.specs.State.{State, meant-row, with-row}
 use Rattle.placing.specs.Kept.{Kept}
 use Rattle.placing.specs.KeptHand.{ready-within}
@@ -47,13 +51,13 @@ kept-in sits starts ends costs placed processors rb spent rcb length =
     }
 
 abbrev Inv-loop : tie.InvT-loop
-Inv-loop s v prices minimums ranks cheapest outset clock sits₀ starts₀ ends₀ costs₀ last before placed₀ processors₀ rb₀ spent₀ rcb₀ length₀ k₀
+Inv-loop s v prices minimums ranks cheapest clock sits₀ starts₀ ends₀ costs₀ last before placed₀ processors₀ rb₀ spent₀ rcb₀ length₀ k₀
     sits starts ends costs placed processors rb spent rcb length k =
-    let W = begun (kept-by outset) clock (workflow-of s v) in
+    let W = begun (kept-by processors₀) clock (workflow-of s v) in
     (k ≤ v .tasks) × Kept W (place HBCS W k) k (kept-in sits starts ends costs placed processors rb spent rcb length)
 
 abbrev μ-loop : tie.MeasureT-loop
-μ-loop s v prices minimums ranks cheapest outset clock sits₀ starts₀ ends₀ costs₀ last before placed₀ processors₀ rb₀ spent₀ rcb₀ length₀ k₀
+μ-loop s v prices minimums ranks cheapest clock sits₀ starts₀ ends₀ costs₀ last before placed₀ processors₀ rb₀ spent₀ rcb₀ length₀ k₀
     sits starts ends costs placed processors rb spent rcb length k =
     v .tasks - k
 
@@ -61,10 +65,10 @@ link-all-requires : tie.Need-link-all-requires Inv-loop μ-loop
 link-all-requires c κs = (c .before .before .before .pre .0, linked-first _)
 
 loop-holds : tie.Need-loop-holds Inv-loop μ-loop
-unfolding workflow begun place
+unfolding workflow begun cheapest-total lowest-cost cost place
 loop-holds c =
     let pre = c .before .before .before .before .pre in
-    (omega arith, kept-first _ (pre .1 .1) refl (pre .1 .0 .1))
+    (omega arith, kept-first _ (pre .1 .1 .1) (keeps-itself (pre .1 .1 .0 .0)) (pre .1 .1 .0 .1) refl (pre .1 .0 .1))
 
 next-task-requires : tie.Need-next-task-requires Inv-loop μ-loop
 unfolding workflow begun
@@ -83,7 +87,8 @@ rows-so-far c = place HBCS (flow c) (c .before .before .before .before .loop .k)
 in-range : (c : tie.After-next-task Inv-loop μ-loop) → InRange (flow c)
 in-range c =
     let start = c .before .before .before .before .before .before .before .before .before in
-    view-in-range (start .args .s .now) (start .args .v) (start .pre .0)
+    let (in-order, few, ended, clock-in) = start .pre .1 .1 .0 in
+    begun-in-range (view-in-range (start .args .s .now) (start .args .v) (start .pre .0)) in-order ended clock-in
 
 left : (c : tie.After-next-task Inv-loop μ-loop) → c .before .before .before .before .loop .k < flow c .tasks
 unfolding workflow begun
@@ -93,8 +98,9 @@ left c = c .before .before .if1 .taken
 next-is : (c : tie.After-next-task Inv-loop μ-loop) → c .next-task .result ≡ next-task (flow c) (is-placed (rows-so-far c))
 unfolding workflow begun
 next-is c =
-    let pre = c .before .before .before .before .before .before .before .before .before .pre in
-    next-kept (in-range c) (c .before .before .before .before .loop .inv .1) (left c) (pre .1 .0 .0) (c .next-task .ensures)
+    let start = c .before .before .before .before .before .before .before .before .before in
+    let ranks-of = ranks-begun (start .args .outset) (start .args .clock) (start .pre .1 .0 .0) in
+    next-kept (in-range c) (c .before .before .before .before .loop .inv .1) (left c) ranks-of (c .next-task .ensures)
 
 task-below : (c : tie.After-next-task Inv-loop μ-loop) → c .next-task .result < flow c .tasks
 task-below c = next-free (in-range c) (c .before .before .before .before .loop .inv .1) (left c) (next-is c) .0
@@ -107,7 +113,7 @@ rcb-is : (c : tie.After-lowest-of Inv-loop μ-loop) →
     let rcb = c .before .before .before .before .before .before .before .loop .rcb in
     let turn = c .before .before .before in
     (c .lowest-of .result ≤ rcb) × (rcb - c .lowest-of .result ≡ RCB (flow turn) (rows-so-far turn) (turn .next-task .result))
-unfolding workflow begun
+unfolding workflow begun arrived arrival cost lowest-cost start-by finish-by question-by
 rcb-is c =
     let turn = c .before .before .before in
     let lowest-is = c .lowest-of .ensures ∙ lowest-filled _ (in-range turn) _ (c .before .before .cost-on-all .ensures) in
@@ -119,7 +125,7 @@ turn-of c = c .before .before .before .before .before .before .before .before .b
 
 -- Its processor is one of the 16.
 processor-below : (c : tie.After-row-for Inv-loop μ-loop) → c .row-for .result .processor < 16
-unfolding workflow begun
+unfolding workflow begun arrived arrival cost lowest-cost start-by finish-by question-by
 processor-below c =
     let turn = turn-of c in
     let kept = turn .before .before .before .before .loop .inv .1 in
@@ -133,10 +139,10 @@ turned : (c : tie.After-row-for Inv-loop μ-loop) →
     let loop = turn .before .before .before .before .loop in
     let row = c .row-for .result in
     let state = kept-in (loop .sits) (loop .starts) (loop .ends) (loop .costs) (loop .placed) (loop .processors) (loop .rb) (loop .spent) (loop .rcb) (loop .length) in
-    (after : Processors) → PutIn (loop .k) (loop .processors) (meant-row row) after
+    (after : Processors) → PutIn (at (loop .processors .first) 16) (loop .processors) (meant-row row) after
     → Kept (flow turn) (place HBCS (flow turn) (loop .k + 1)) (loop .k + 1)
     (with-row state (turn .next-task .result) (meant-row row) (loop .rcb - c .before .before .before .before .before .before .before .before .before .before .before .before .lowest-of .result) after)
-unfolding workflow begun
+unfolding workflow begun arrived arrival cost lowest-cost start-by finish-by question-by
 turned c after put =
     let turn = turn-of c in
     let kept = turn .before .before .before .before .loop .inv .1 in
@@ -167,7 +173,7 @@ ready-on-all-requires c κs =
     (turn .before .before .before .before .before .before .before .before .before .pre .0, (task-below turn, turn .before .before .before .before .before .link-all .ensures, ends-within (in-range turn) kept (left turn)))
 
 row-for-requires : tie.Need-row-for-requires Inv-loop μ-loop
-unfolding workflow begun
+unfolding workflow begun arrived arrival cost lowest-cost start-by finish-by question-by
 row-for-requires c κs =
     let turn = c .before .before .before .before .before .before .before .before .before .before .before .before .before .before in
     let kept = turn .before .before .before .before .loop .inv .1 in
@@ -219,20 +225,22 @@ kept-in-order c = turn-of c .before .before .before .before .loop .inv .1 .proce
 
 in-reach :
     (c : tie.After-position Inv-loop μ-loop)
-    → let k = turn-of (c .before .before .before .before) .before .before .before .before .loop .k in
-    (c .position .result ≤ k) × (k < 64)
+    → let kept = turn-of (c .before .before .before .before .before) .before .before .before .before .loop .processors .first in
+    (c .position .result ≤ at kept 16) × (at kept 16 < room-most)
 in-reach c =
-    let row = c .before .before .before .before in
+    let row = c .before .before .before .before .before in
     let turn = turn-of row in
-    let kept = turn .before .before .before .before .loop .inv .1 .processors in
-    let place = place-in-reach (kept .in-order) (processor-below row) (row .row-for .result .start) in
-    (omega (arith, c .position .ensures, place, kept .in-all), omega (arith, left turn, in-range turn .tasks-in))
+    let kept = turn .before .before .before .before .loop .inv .1 in
+    let place = place-in-reach (kept .processors .in-order) (processor-below row) (row .row-for .result .start) in (
+      omega (arith, c .position .ensures, place, kept .processors .in-all),
+      omega (arith, kept .few-intervals, left turn, in-range turn .tasks-in),
+    )
 
 -- What is kept once its row is put there.
 put : (c : tie.After-one-more Inv-loop μ-loop) →
-    let row = c .before .before .before .before .before .before .before .before .before .before in
+    let row = c .before .before .before .before .before .before .before .before .before .before .before in
     let loop = turn-of row .before .before .before .before .loop in
-    PutIn (loop .k) (loop .processors) (meant-row (row .row-for .result))
+    PutIn (at (loop .processors .first) 16) (loop .processors) (meant-row (row .row-for .result))
     (record { begins = c .before .before .before .before .insert .last .0; ends = c .before .before .insert2 .last .0; first = c .one-more .last .0 })
 put c =
     record {
@@ -243,25 +251,28 @@ put c =
       first-are = c .one-more .ensures;
     }
 
+element-copy-out-kept : tie.Need-element-copy-out-kept Inv-loop μ-loop
+element-copy-out-kept c = search needs
+
 position-requires : tie.Need-position-requires Inv-loop μ-loop
 position-requires c κs =
-    let order = kept-in-order (c .before .before .before) in
-    let below = processor-below (c .before .before .before) in
+    let order = kept-in-order (c .before .before .before .before) in
+    let below = processor-below (c .before .before .before .before) in
     (below, order .first-rises _ below, first-at-most order)
 
 insert-requires : tie.Need-insert-requires Inv-loop μ-loop
 insert-requires c κs =
-    let row = c .before .before .before .before .before in
+    let row = c .before .before .before .before .before .before in
     (kept-in-order row .begins-size, in-reach (c .before) .0, in-reach (c .before) .1)
 
 insert-requires-2 : tie.Need-insert-requires-2 Inv-loop μ-loop
 insert-requires-2 c κs =
-    let row = c .before .before .before .before .before .before .before in
+    let row = c .before .before .before .before .before .before .before .before in
     (kept-in-order row .ends-size, in-reach (c .before .before .before) .0, in-reach (c .before .before .before) .1)
 
 one-more-requires : tie.Need-one-more-requires Inv-loop μ-loop
 one-more-requires c κs =
-    let row = c .before .before .before .before .before .before .before .before .before in
+    let row = c .before .before .before .before .before .before .before .before .before .before in
     (kept-in-order row .first-size, processor-below row, first-at-most (kept-in-order row))
 
 less-requires : tie.Need-less-requires Inv-loop μ-loop
@@ -269,7 +280,7 @@ less-requires c κs = search needs
 
 add-spent : tie.Need-add-spent Inv-loop μ-loop
 add-spent c =
-    let row = c .before .before .before .before .before .before .before .before .before .before .before .before in
+    let row = c .before .before .before .before .before .before .before .before .before .before .before .before .before in
     let turn = turn-of row in
     omega (arith, turned row _ (put (c .before .before)) .spent-most, left turn, in-range turn .tasks-in)
 
@@ -278,17 +289,17 @@ larger-requires c κs = search needs
 
 add-k : tie.Need-add-k Inv-loop μ-loop
 add-k c =
-    let turn = turn-of (c .before .before .before .before .before .before .before .before .before .before .before .before .before) in
+    let turn = turn-of (c .before .before .before .before .before .before .before .before .before .before .before .before .before .before) in
     omega (arith, left turn, in-range turn .tasks-in)
 
 loop-less : tie.Need-loop-less Inv-loop μ-loop
 unfolding workflow begun
-loop-less c = omega (arith, left (turn-of (c .before .before .before .before .before .before .before .before .before .before .before .before .before)))
+loop-less c = omega (arith, left (turn-of (c .before .before .before .before .before .before .before .before .before .before .before .before .before .before)))
 
 loop-again : tie.Need-loop-again Inv-loop μ-loop
 unfolding workflow begun
 loop-again c =
-    let row = c .before .before .before .before .before .before .before .before .before .before .before .before .before in
+    let row = c .before .before .before .before .before .before .before .before .before .before .before .before .before .before in
     (omega (arith, left (turn-of row)), rw (c .larger .ensures, c .before .before .less .ensures) (turned row _ (put (c .before .before .before))))
 
 less-requires-2 : tie.Need-less-requires-2 Inv-loop μ-loop
@@ -331,6 +342,7 @@ place-spec =
     mul-costs
     element-write-costs
     array-write-placed
+    element-copy-out-kept
     position-requires
     insert-requires
     insert-requires-2
