@@ -86,11 +86,10 @@ struct zabgurin_part {
 struct zabgurin_part zabgurin_label(const uint8_t *request, size_t request_len, size_t task);
 
 /* What reading a request says. number is 0 for a good request, with its numbers (a deadline of 0 is none) and the offsets at which its parts begin: the records of the
-   processors, the tasks, and the edges, or the end where there are none. Else number is that of the refusal, 1 to 6, with its place, and all else is 0.
+   processors, the windows, or the tasks where there are none, the tasks, and the edges, or the end where there are none. Else number is that of the refusal, 1 to 6, with its place, and all else is 0.
 
    The processors' records stand from prices_at on in the order of the processors, for each a P of 3 bytes or a Q of 5. So the record of a processor is found from the one
-   before it, by its letter. Behind the last of them stand the windows, if there are any, each an M of 10 bytes, up to tasks_at: by rising processor, and those of one
-   processor by rising begin. */
+   before it, by its letter. The windows, each an M of 10 bytes, stand by rising processor, and those of one processor by rising begin. */
 struct zabgurin_reading {
     uint64_t number;
     size_t place;
@@ -99,6 +98,8 @@ struct zabgurin_reading {
     uint64_t budget;
     uint64_t deadline;
     size_t prices_at;
+    size_t windows_at;
+    size_t windows;
     size_t tasks_at;
     size_t edges_at;
     size_t edges;

@@ -145,9 +145,13 @@ pub struct Reading {
     /// 0 without one.
     pub deadline: u64,
     /// Where the records of the processors begin: for each, in their order, a `P` of 3 bytes or a `Q` of 5. So the record of a processor is found from the one before
-    /// it, by its letter. Behind the last of them stand the windows, if there are any, each an `M` of 10 bytes, up to `tasks_at`: by rising processor, and those of one
-    /// processor by rising begin.
+    /// it, by its letter.
     pub prices_at: usize,
+    /// The offset of the first window, an `M` of 10 bytes, or of the first task where there is none. Windows stand by rising processor, and those of one processor by
+    /// rising begin.
+    pub windows_at: usize,
+    /// How many windows there are.
+    pub windows: usize,
     /// Where the records of the tasks begin.
     pub tasks_at: usize,
     /// The offset of the first edge, or of the end where there is none.

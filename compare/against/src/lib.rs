@@ -310,6 +310,8 @@ impl Answers {
             budget: self.word(),
             deadline: self.word(),
             prices_at: self.size(),
+            windows_at: self.size(),
+            windows: self.size(),
             tasks_at: self.size(),
             edges_at: self.size(),
             edges: self.size(),

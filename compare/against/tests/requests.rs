@@ -81,7 +81,9 @@ fn workflow(request: &[u8], reading: &Reading, labels: &[&[u8]]) -> Workflow {
     };
     let two = |at: usize| u32::from(u16::from_le_bytes([request[at], request[at + 1]]));
     let four = |at: usize| two(at) | two(at + 2) << 16;
-    let &Reading { tasks: n, processors: m, prices_at, tasks_at, edges_at, edges, .. } = reading;
+    let &Reading {
+        tasks: n, processors: m, prices_at, windows_at, tasks_at, edges_at, edges, ..
+    } = reading;
     // A `Q` is longer than a `P`, so the record of a processor is found from the one before it.
     let (mut at, mut prices, mut minimums) = (prices_at, Vec::new(), Vec::new());
     for j in 0..m as u8 {
@@ -91,9 +93,10 @@ fn workflow(request: &[u8], reading: &Reading, labels: &[&[u8]]) -> Workflow {
         minimums.push(if has_minimum { two(at + 3) } else { 0 });
         at += if has_minimum { Q } else { P };
     }
-    // Behind them stand the windows, up to the tasks.
+    // Behind them stand the windows, and then the tasks.
+    assert_eq!(at, windows_at, "request {request:?}");
     let mut windows = Vec::new();
-    while at < tasks_at {
+    for _ in 0..reading.windows {
         begins(at, b"M");
         windows.push(Window {
             processor: request[at + 1].into(),
