@@ -1,5 +1,5 @@
 -- An array after a store, at every index; and one that holds one value throughout.
-use Prim.Native.Nat.{ℕ, zero, suc, _+_, _≤_, _<_}
+use Prim.Native.Nat.{ℕ, zero, suc, _+_, _<_}
 use mathlib.Core.Path.{_≡_, refl, sym, ap, _∙_}
 use mathlib.Core.List.{List}
 use mathlib.Core.Bool.{cond}
@@ -39,8 +39,3 @@ pub repeated {ℓ} : {A : Type ℓ} (n : ℕ) (d : A) (k : ℕ) → getD (replic
 repeated zero d k = refl
 repeated (suc n) d zero = refl
 repeated (suc n) d (suc k) = repeated n d k
-
-pub repeated-at-most : (n d k : ℕ) → at (replicate n d) k ≤ d
-repeated-at-most zero d k = omega arith
-repeated-at-most (suc n) d zero = omega arith
-repeated-at-most (suc n) d (suc k) = repeated-at-most n d k

@@ -4,6 +4,7 @@ use mathlib.Core.Path.{_≡_, refl, ap, _∙_}
 use mathlib.Core.List.{List}
 use native.Mathlib.Decide.{decLt}
 use native.Mathlib.Omega.{arith}
+use lib.ListN.{List·getD-eq-default}
 use Rattle.rules.specs.Workflow.{Workflow}
 use Rattle.rules.specs.Start.{arrived, ready, start-on}
 use Rattle.rules.specs.Rows.{Placed, busy}
@@ -49,7 +50,11 @@ module _ {W : Workflow} (range : InRange W) {rows : List Placed} {k : ℕ} {stat
             kept .length-most,
             range .tasks-in,
           )
-      go (no past) = omega (arith, all-ready .past j (omega arith), range .clock-in)
+      go (no past) = beyond (decLt j 16)
+        where
+          beyond : Dec (j < 16) → at minutes j ≤ ready-most
+          beyond (yes b) = omega (arith, all-ready .past j (omega arith) b, range .clock-in)
+          beyond (no out) = rw (List·getD-eq-default minutes 0 {n = j} (omega (arith, all-ready .size))) (omega arith)
 
   start-kept : (j : ℕ) → j < W .processors → start-by W (at minutes) (kept-by (state .processors)) i j ≡ start-of W rows i j
   unfolding start-by start-of

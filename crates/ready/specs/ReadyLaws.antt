@@ -11,7 +11,7 @@ use Rattle.rules.specs.Folds.{largest}
 use Rattle.rules.specs.Workflow.{Workflow}
 use Rattle.rules.specs.Start.{arrival, arrived}
 use Rattle.laws.specs.Folds.{largest-next, largest-further}
-use Rattle.laws.specs.Stores.{stored-below, repeated-at-most, at}
+use Rattle.laws.specs.Stores.{stored-below, at}
 use Rattle.links.specs.Links.{LastInto}
 use Rattle.laws.specs.FilledLaws.{stored-past}
 use Rattle.ready.specs.Ready.{FromClock, WaitedFor}
@@ -43,7 +43,7 @@ module _ (W : Workflow) (sits ends : ℕ → ℕ) (i clock : ℕ) where
   pub record ReadyFrom (m k : ℕ) (xs : List ℕ) : Type 0 where
     pub size : length xs ≡ 16
     pub with-rest : (j : ℕ) → j < m → max (at xs j) (largest k (awaited j)) ≡ max clock (arrived W sits ends i j)
-    pub past : (j : ℕ) → m ≤ j → at xs j ≤ clock
+    pub past : (j : ℕ) → m ≤ j → j < 16 → at xs j ≡ clock
 
   pub ready-from-end : (m : ℕ) → m ≤ 16 → ReadyFrom m (W .edges) (replicate 16 clock)
   unfolding arrived awaited
@@ -51,7 +51,7 @@ module _ (W : Workflow) (sits ends : ℕ → ℕ) (i clock : ℕ) where
       record {
         size = refl;
         with-rest = λ j l. rw (getD-replicate {A = ℕ} 16 j clock 0 (omega arith)) refl;
-        past = λ j l. repeated-at-most 16 clock j;
+        past = λ j l b. getD-replicate {A = ℕ} 16 j clock 0 b;
       }
 
   module _ {m : ℕ} {xs : List ℕ} where
@@ -83,7 +83,7 @@ module _ (W : Workflow) (sits ends : ℕ → ℕ) (i clock : ℕ) where
                 largest-next e (awaited j) {x = largest e (awaited j)} {r = max (largest e (awaited j)) (awaited j e)} refl refl,
                 so-far .with-rest j l,
               );
-          past = λ j l. omega (arith, waited .kept j l, so-far .past j l);
+          past = λ j l b. waited .kept j l ∙ so-far .past j l b;
         }
       where
         across-or-here : (s : Bool) → cond s (ends p) (ends p + t) ≡ ends p + cond s 0 t
