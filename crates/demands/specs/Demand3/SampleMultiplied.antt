@@ -99,9 +99,17 @@ sample-both-good =
     (three-by-two _ refl refl refl refl refl refl)
     (below-two _ refl refl)
 
--- With other records before the tasks, which begin there, and with so many windows from there on.
-sampled-with : (budget windows-at windows tasks-at : ℕ) → Request
-sampled-with budget windows-at windows tasks-at =
+-- With other records before the tasks: a minimum of 10 beside one of 60, a `P` beside a `Q` with minimum 0, and windows of processor 0 from 5 to 7 and of
+-- processor 1 from 0 to 1 and from 6 to 9.
+abbrev pub once-with-more : List ℕ
+once-with-more = with-processors (P-record 0 1 ++ Q-record 1 3 10 ++ M-record 0 5 7 ++ M-record 1 0 1 ++ M-record 1 6 9) (S 28)
+
+abbrev pub tripled-with-more : List ℕ
+tripled-with-more = with-processors (Q-record 0 2 0 ++ Q-record 1 6 60 ++ M-record 0 15 21 ++ M-record 1 0 3 ++ M-record 1 18 27) tripled
+
+-- What reading makes of these, where the windows begin at that offset.
+sampled-with : (budget windows-at : ℕ) → Request
+sampled-with budget windows-at =
     record {
       tasks = 3;
       processors = 2;
@@ -109,61 +117,20 @@ sampled-with budget windows-at windows tasks-at =
       deadline = no-deadline;
       prices-at = 7;
       windows-at = windows-at;
-      windows = windows;
-      tasks-at = tasks-at;
-      edges-at = tasks-at + 60;
+      windows = 3;
+      tasks-at = windows-at + 30;
+      edges-at = windows-at + 90;
       edges = 2;
     }
 
--- A minimum of 10 beside one of 60, and a `P` beside a `Q` with minimum 0.
-abbrev pub once-with-minimum : List ℕ
-once-with-minimum = with-processors (P-record 0 1 ++ Q-record 1 3 10) (S 28)
-
-abbrev pub tripled-with-minimum : List ℕ
-tripled-with-minimum = with-processors (Q-record 0 2 0 ++ Q-record 1 6 60) tripled
-
--- Windows of processor 0 from 5 to 7, and of processor 1 from 0 to 1 and from 6 to 9.
-abbrev pub once-with-windows : List ℕ
-once-with-windows = with-processors (P-record 0 1 ++ P-record 1 3 ++ M-record 0 5 7 ++ M-record 1 0 1 ++ M-record 1 6 9) (S 28)
-
-abbrev pub tripled-with-windows : List ℕ
-tripled-with-windows = with-processors (P-record 0 2 ++ P-record 1 6 ++ M-record 0 15 21 ++ M-record 1 0 3 ++ M-record 1 18 27) tripled
-
--- All that is left to compute are the numbers.
-pub minimum-both-good : BothGood 3 2 once-with-minimum tripled-with-minimum
+pub more-both-good : BothGood 3 2 once-with-more tripled-with-more
 unfolding given sample S sampled-with multiplied-deadline multiplied-interval
-minimum-both-good =
+more-both-good =
     record {
-      end = 86;
-      end′ = 88;
-      r = sampled-with 28 15 0 15;
-      r′ = sampled-with 168 17 0 17;
-      good = refl;
-      good′ = refl;
-      multiplied = record {
-        tasks = refl;
-        processors = refl;
-        budget = refl;
-        deadline = refl;
-        price = below-two _ refl refl;
-        minimum = below-two _ refl refl;
-        windows = below-two _ refl refl;
-        minutes = three-by-two _ refl refl refl refl refl refl;
-        edges = refl;
-        from = below-two _ refl refl;
-        to = below-two _ refl refl;
-        transfer = below-two _ refl refl;
-      };
-    }
-
-pub windows-both-good : BothGood 3 2 once-with-windows tripled-with-windows
-unfolding given sample S sampled-with multiplied-deadline multiplied-interval
-windows-both-good =
-    record {
-      end = 114;
-      end′ = 114;
-      r = sampled-with 28 13 3 43;
-      r′ = sampled-with 168 13 3 43;
+      end = 116;
+      end′ = 118;
+      r = sampled-with 28 15;
+      r′ = sampled-with 168 17;
       good = refl;
       good′ = refl;
       multiplied = record {
