@@ -11,16 +11,16 @@ pub fn busy_at_first(s: &[u8], v: View) -> Processors
     ensures { λ r. ⌜ Keeps (workflow-of (now (s .entry)) v .busy-at-first) (v .windows) r ⌝ }
 {
     let mut processors = Processors {
-        begins: [0u64; 128],
-        ends: [0u64; 128],
+        begins: [0u32; 128],
+        ends: [0u32; 128],
         first: [0usize; 17],
     };
     let mut e = 0;
     while e < v.windows {
         let w = lookup::window_of(s, v, e);
         let at = busy::position(&processors.begins, &processors.first, w.processor, w.begin);
-        busy::insert(&mut processors.begins, at, e, w.begin);
-        busy::insert(&mut processors.ends, at, e, w.end);
+        busy::insert(&mut processors.begins, at, e, w.begin as u32);
+        busy::insert(&mut processors.ends, at, e, w.end as u32);
         busy::one_more(&mut processors.first, w.processor);
         e += 1;
     }

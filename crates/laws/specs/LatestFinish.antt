@@ -62,7 +62,7 @@ module _ (W : Workflow) (minutes-in : (i j : ℕ) → W .minutes i j ≤ 2_000) 
     unfolding ready-for ready
     ready-in-reach = omega (arith, arrived-in-reach, clock-in)
 
-    finish-in-reach : finish-of W rows i j ≤ max first-most (length-of rows + 1_000) + 2_000
+    pub finish-in-reach : finish-of W rows i j ≤ max first-most (length-of rows + 1_000) + 2_000
     unfolding finish-of start-of
     finish-in-reach =
         let d : ℕ = max first-most (length-of rows + 1_000) in

@@ -42,3 +42,10 @@ pub fn either_number(t: bool, i: usize, j: usize) -> usize
 {
     if t { i } else { j }
 }
+
+// The same number in 64 bits. A u32 that is handed over is known to fit them; an element of a lent array, cast in place, is not.
+pub fn wide(x: u32) -> u64
+    ensures { λ r. ⌜ r ≡ x ⌝ }
+{
+    x as u64
+}

@@ -1,5 +1,5 @@
 -- One turn: the next task is placed, and what is kept has its row.
-use Prim.Native.Nat.{ℕ, _+_, _<_, max}
+use Prim.Native.Nat.{ℕ, _+_, _≤_, _<_, max}
 use mathlib.Core.Path.{_≡_, refl, ap, _∙_}
 use mathlib.Core.List.{List, _∷_}
 use native.Mathlib.Numerals.{add-one}
@@ -11,7 +11,8 @@ use Rattle.rules.specs.Rows.{Row, Placed, is-placed, busy, spent, length-of}
 use Rattle.rules.specs.Method.{Method}
 use Rattle.rules.specs.Placing.{start-of, finish-of, RCB, question, row-on, place-next, place}
 use Rattle.good.specs.Ranges.{InRange}
-use Rattle.laws.specs.LatestFinish.{length-in-reach}
+use Rattle.laws.specs.Bounds.{finish-most}
+use Rattle.laws.specs.LatestFinish.{finish-in-reach, length-in-reach}
 use Rattle.laws.specs.Unmarked.{sum-unmarked-less}
 use Rattle.laws.specs.Method.{ChoosesAmong}
 use Rattle.laws.specs.Stores.{at}
@@ -78,9 +79,17 @@ module _ {M : Method} (among : ChoosesAmong M) {W : Workflow} (range : InRange W
   row-is : meant-row r ≡ row-on W (place M W k) i taken
   row-is = row-kept range kept i all-ready among to-come-is handed
 
-  pub processor : r .processor < W .processors
-  unfolding row-on
-  processor = omega (arith, ap (λ x. x .processor) row-is, takes among range (place M W k) i)
+  -- It is on a processor that there is, and in reach.
+  pub row-within : (r .processor < W .processors) × (r .start ≤ r .finish) × (r .finish ≤ finish-most)
+  unfolding row-on start-of finish-of
+  row-within =
+      let start = ap (λ x. x .start) row-is in
+      let finish = ap (λ x. x .finish) row-is in
+      let reach = finish-in-reach W (range .minutes-most) (range .transfer-in) (range .clock-in) (range .first-end-in) (place M W k) i taken in (
+        omega (arith, ap (λ x. x .processor) row-is, takes among range (place M W k) i),
+        omega arith,
+        omega (arith, kept .length-most, range .tasks-in),
+      )
 
   placed-more : place M W (k + 1) ≡ record { task = i; row = row-on W (place M W k) i taken } ∷ place M W k
   unfolding place place-next

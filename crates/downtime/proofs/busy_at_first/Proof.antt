@@ -62,19 +62,32 @@ position-requires c κs =
     let w = c .before .before .before in
     (processor-below w, in-order w .first-rises _ (processor-below w), first-at-most (in-order w))
 
+-- It has minutes, which fit 32 bits.
+begins-before-end : (w : tie.After-window-of Inv-loop μ-loop) → w .window-of .result .begin < w .window-of .result .end
+begins-before-end w = omega (arith, w .window-of .ensures, in-hand w .has-minutes)
+
+end-in : (w : tie.After-window-of Inv-loop μ-loop) → w .window-of .result .end ≤ 20_000
+end-in w = omega (arith, w .window-of .ensures, in-hand w .end-in)
+
+cast-insert : tie.Need-cast-insert Inv-loop μ-loop
+cast-insert c = let w = c .before .before .before .before .before .before in omega (arith, begins-before-end w, end-in w)
+
 insert-requires : tie.Need-insert-requires Inv-loop μ-loop
 insert-requires c κs =
-    let w = c .before .before .before .before .before in
-    (in-order w .begins-size, in-reach (c .before), omega (arith, room w))
+    let w = c .before .before .before .before .before .before in
+    (in-order w .begins-size, in-reach (c .before .before), omega (arith, room w))
+
+cast-insert-2 : tie.Need-cast-insert-2 Inv-loop μ-loop
+cast-insert-2 c = omega (arith, end-in (c .before .before .before .before .before .before .before .before .before))
 
 insert-requires-2 : tie.Need-insert-requires-2 Inv-loop μ-loop
 insert-requires-2 c κs =
-    let w = c .before .before .before .before .before .before .before in
-    (in-order w .ends-size, in-reach (c .before .before .before), omega (arith, room w))
+    let w = c .before .before .before .before .before .before .before .before .before in
+    (in-order w .ends-size, in-reach (c .before .before .before .before .before), omega (arith, room w))
 
 one-more-requires : tie.Need-one-more-requires Inv-loop μ-loop
 one-more-requires c κs =
-    let w = c .before .before .before .before .before .before .before .before .before in
+    let w = c .before .before .before .before .before .before .before .before .before .before .before in
     (in-order w .first-size, processor-below w, first-at-most (in-order w))
 
 add-e : tie.Need-add-e Inv-loop μ-loop
@@ -85,15 +98,15 @@ loop-less c = search needs
 
 -- What is kept once it is put there.
 put : (c : tie.After-one-more Inv-loop μ-loop) →
-    let w = c .before .before .before .before .before .before .before .before .before .before in
+    let w = c .before .before .before .before .before .before .before .before .before .before .before .before in
     let loop = w .before .before .before .loop in
     WithInterval (loop .e) (w .window-of .result .processor) (w .window-of .result .begin) (w .window-of .result .end) (loop .processors)
-    (record { begins = c .before .before .before .before .insert .last .0; ends = c .before .before .insert2 .last .0; first = c .one-more .last .0 })
+    (record { begins = c .before .before .before .before .before .insert .last .0; ends = c .before .before .insert2 .last .0; first = c .one-more .last .0 })
 put c =
     record {
-      place = c .before .before .before .before .before .before .position .result;
-      place-is = c .before .before .before .before .before .before .position .ensures;
-      begins-are = c .before .before .before .before .insert .ensures;
+      place = c .before .before .before .before .before .before .before .before .position .result;
+      place-is = c .before .before .before .before .before .before .before .before .position .ensures;
+      begins-are = c .before .before .before .before .before .insert .ensures;
       ends-are = c .before .before .insert2 .ensures;
       first-are = c .one-more .ensures;
     }
@@ -101,10 +114,10 @@ put c =
 loop-again : tie.Need-loop-again Inv-loop μ-loop
 unfolding windows-on window-of
 loop-again c =
-    let w = c .before .before .before .before .before .before .before .before .before .before in
+    let w = c .before .before .before .before .before .before .before .before .before .before .before .before in
     let loop = w .before .before .before .loop in
     let (processor, begin, end) = w .window-of .ensures in
-    let some : w .window-of .result .begin < w .window-of .result .end = omega (arith, in-hand w .has-minutes) in (
+    let some = begins-before-end w in (
       omega (arith, w .before .if1 .taken),
       rw (add-one (loop .e), ← processor, ← begin, ← end)
           (rw (add-one (loop .e)) at (keeps-more (loop .inv .1) (processor-below w) (omega (arith, room w)) some (put c))),
@@ -127,7 +140,9 @@ busy-at-first-spec =
     loop-holds
     window-of-requires
     position-requires
+    cast-insert
     insert-requires
+    cast-insert-2
     insert-requires-2
     one-more-requires
     add-e

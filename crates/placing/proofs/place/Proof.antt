@@ -12,6 +12,7 @@ use Rattle.rules.specs.Placing.{RCB, place}
 use Rattle.good.specs.Ranges.{InRange}
 use Rattle.lookup.specs.Lookup.{workflow-of}
 use Rattle.lookup.specs.Views.{view-in-range}
+use Rattle.laws.specs.Bounds.{finish-most}
 use Rattle.laws.specs.Begun.{begun}
 use Rattle.laws.specs.Stores.{at}
 use Rattle.laws.specs.Method.{HBCS-chooses-among}
@@ -27,7 +28,7 @@ use Rattle.placing.specs.State.{State, meant-row, with-row}
 use Rattle.placing.specs.Kept.{Kept}
 use Rattle.placing.specs.KeptHand.{ready-within}
 use Rattle.placing.specs.KeptLaws.{kept-first, ends-within, busy-within, rb-within, rcb-within, next-kept, next-free, rcb-less}
-use Rattle.placing.specs.KeptMore.{PutIn, processor, kept-more}
+use Rattle.placing.specs.KeptMore.{PutIn, row-within, kept-more}
 use Rattle.placing.specs.Begins.{begun-in-range, ranks-begun}
 use borrow.Author.Needs.{needs}
 use native.Mathlib.Omega.{arith}
@@ -123,16 +124,19 @@ rcb-is c =
 abbrev turn-of : tie.After-row-for Inv-loop μ-loop → tie.After-next-task Inv-loop μ-loop
 turn-of c = c .before .before .before .before .before .before .before .before .before .before .before .before .before .before .before
 
--- Its processor is one of the 16.
-processor-below : (c : tie.After-row-for Inv-loop μ-loop) → c .row-for .result .processor < 16
+-- Its processor is one of the 16, and its minutes fit 32 bits.
+row-in-range :
+    (c : tie.After-row-for Inv-loop μ-loop)
+    → let row = c .row-for .result in
+    (row .processor < 16) × (row .start ≤ row .finish) × (row .finish ≤ finish-most)
 unfolding workflow begun arrived arrival cost lowest-cost start-by finish-by question-by
-processor-below c =
+row-in-range c =
     let turn = turn-of c in
     let kept = turn .before .before .before .before .loop .inv .1 in
     let to-come = rcb-is (c .before .before .before .before .before .before .before .before .before .before .before .before) .1 in
     let all-ready = c .before .before .before .before .before .before .before .ready-on-all .ensures in
-    let below = processor HBCS-chooses-among (in-range turn) kept (left turn) (next-is turn) all-ready to-come (c .row-for .ensures) in
-    omega (arith, below, in-range turn .processors-in .to-high)
+    let (below, forward, reach) = row-within HBCS-chooses-among (in-range turn) kept (left turn) (next-is turn) all-ready to-come (c .row-for .ensures) in
+    (omega (arith, below, in-range turn .processors-in .to-high), forward, reach)
 
 turned : (c : tie.After-row-for Inv-loop μ-loop) →
     let turn = turn-of c in
@@ -231,22 +235,22 @@ in-reach c =
     let row = c .before .before .before .before .before in
     let turn = turn-of row in
     let kept = turn .before .before .before .before .loop .inv .1 in
-    let place = place-in-reach (kept .processors .in-order) (processor-below row) (row .row-for .result .start) in (
+    let place = place-in-reach (kept .processors .in-order) (row-in-range row .0) (row .row-for .result .start) in (
       omega (arith, c .position .ensures, place, kept .processors .in-all),
       omega (arith, kept .few-intervals, left turn, in-range turn .tasks-in),
     )
 
 -- What is kept once its row is put there.
 put : (c : tie.After-one-more Inv-loop μ-loop) →
-    let row = c .before .before .before .before .before .before .before .before .before .before .before in
+    let row = c .before .before .before .before .before .before .before .before .before .before .before .before .before in
     let loop = turn-of row .before .before .before .before .loop in
     PutIn (at (loop .processors .first) 16) (loop .processors) (meant-row (row .row-for .result))
-    (record { begins = c .before .before .before .before .insert .last .0; ends = c .before .before .insert2 .last .0; first = c .one-more .last .0 })
+    (record { begins = c .before .before .before .before .before .insert .last .0; ends = c .before .before .insert2 .last .0; first = c .one-more .last .0 })
 put c =
     record {
-      place = c .before .before .before .before .before .before .position .result;
-      place-is = c .before .before .before .before .before .before .position .ensures;
-      begins-are = c .before .before .before .before .insert .ensures;
+      place = c .before .before .before .before .before .before .before .before .position .result;
+      place-is = c .before .before .before .before .before .before .before .before .position .ensures;
+      begins-are = c .before .before .before .before .before .insert .ensures;
       ends-are = c .before .before .insert2 .ensures;
       first-are = c .one-more .ensures;
     }
@@ -257,30 +261,36 @@ element-copy-out-kept c = search needs
 position-requires : tie.Need-position-requires Inv-loop μ-loop
 position-requires c κs =
     let order = kept-in-order (c .before .before .before .before) in
-    let below = processor-below (c .before .before .before .before) in
+    let below = row-in-range (c .before .before .before .before) .0 in
     (below, order .first-rises _ below, first-at-most order)
+
+cast-insert : tie.Need-cast-insert Inv-loop μ-loop
+cast-insert c = omega (arith, row-in-range (c .before .before .before .before .before .before .before))
 
 insert-requires : tie.Need-insert-requires Inv-loop μ-loop
 insert-requires c κs =
-    let row = c .before .before .before .before .before .before in
-    (kept-in-order row .begins-size, in-reach (c .before) .0, in-reach (c .before) .1)
+    let row = c .before .before .before .before .before .before .before in
+    (kept-in-order row .begins-size, in-reach (c .before .before) .0, in-reach (c .before .before) .1)
+
+cast-insert-2 : tie.Need-cast-insert-2 Inv-loop μ-loop
+cast-insert-2 c = omega (arith, row-in-range (c .before .before .before .before .before .before .before .before .before .before))
 
 insert-requires-2 : tie.Need-insert-requires-2 Inv-loop μ-loop
 insert-requires-2 c κs =
-    let row = c .before .before .before .before .before .before .before .before in
-    (kept-in-order row .ends-size, in-reach (c .before .before .before) .0, in-reach (c .before .before .before) .1)
+    let row = c .before .before .before .before .before .before .before .before .before .before in
+    (kept-in-order row .ends-size, in-reach (c .before .before .before .before .before) .0, in-reach (c .before .before .before .before .before) .1)
 
 one-more-requires : tie.Need-one-more-requires Inv-loop μ-loop
 one-more-requires c κs =
-    let row = c .before .before .before .before .before .before .before .before .before .before in
-    (kept-in-order row .first-size, processor-below row, first-at-most (kept-in-order row))
+    let row = c .before .before .before .before .before .before .before .before .before .before .before .before in
+    (kept-in-order row .first-size, row-in-range row .0, first-at-most (kept-in-order row))
 
 less-requires : tie.Need-less-requires Inv-loop μ-loop
 less-requires c κs = search needs
 
 add-spent : tie.Need-add-spent Inv-loop μ-loop
 add-spent c =
-    let row = c .before .before .before .before .before .before .before .before .before .before .before .before .before in
+    let row = c .before .before .before .before .before .before .before .before .before .before .before .before .before .before .before in
     let turn = turn-of row in
     omega (arith, turned row _ (put (c .before .before)) .spent-most, left turn, in-range turn .tasks-in)
 
@@ -289,17 +299,17 @@ larger-requires c κs = search needs
 
 add-k : tie.Need-add-k Inv-loop μ-loop
 add-k c =
-    let turn = turn-of (c .before .before .before .before .before .before .before .before .before .before .before .before .before .before) in
+    let turn = turn-of (c .before .before .before .before .before .before .before .before .before .before .before .before .before .before .before .before) in
     omega (arith, left turn, in-range turn .tasks-in)
 
 loop-less : tie.Need-loop-less Inv-loop μ-loop
 unfolding workflow begun
-loop-less c = omega (arith, left (turn-of (c .before .before .before .before .before .before .before .before .before .before .before .before .before .before)))
+loop-less c = omega (arith, left (turn-of (c .before .before .before .before .before .before .before .before .before .before .before .before .before .before .before .before)))
 
 loop-again : tie.Need-loop-again Inv-loop μ-loop
 unfolding workflow begun
 loop-again c =
-    let row = c .before .before .before .before .before .before .before .before .before .before .before .before .before .before in
+    let row = c .before .before .before .before .before .before .before .before .before .before .before .before .before .before .before .before in
     (omega (arith, left (turn-of row)), rw (c .larger .ensures, c .before .before .less .ensures) (turned row _ (put (c .before .before .before))))
 
 less-requires-2 : tie.Need-less-requires-2 Inv-loop μ-loop
@@ -344,7 +354,9 @@ place-spec =
     array-write-placed
     element-copy-out-kept
     position-requires
+    cast-insert
     insert-requires
+    cast-insert-2
     insert-requires-2
     one-more-requires
     less-requires
