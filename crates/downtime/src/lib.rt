@@ -1,14 +1,16 @@
 // What the processors of a good request are busy with at first: its windows.
-ghost use Rattle.reader.specs.Meaning.{ViewOf};
+ghost use mathlib.Core.Path.{_≡_};
+ghost use Rattle.reader.specs.Meaning.{ViewOf, meant-view};
 ghost use Rattle.lookup.specs.Lookup.{workflow-of};
 ghost use Rattle.busy.specs.Kept.{Keeps};
+ghost use Rattle.downtime.specs.Windows.{kept-windows};
 use busy::Processors;
 use reader::View;
 
 // The windows of a good request, each among those of its processor.
 pub fn busy_at_first(s: &[u8], v: View) -> Processors
     requires { ⌜ ViewOf (now s) v ⌝ }
-    ensures { λ r. ⌜ Keeps (workflow-of (now (s .entry)) v .busy-at-first) (v .windows) r ⌝ }
+    ensures { λ r. ⌜ (r ≡ kept-windows (now (s .entry)) (meant-view v) (v .windows)) × Keeps (workflow-of (now (s .entry)) v .busy-at-first) (v .windows) r ⌝ }
 {
     let mut processors = Processors {
         begins: [0u32; 128],

@@ -1,6 +1,6 @@
 -- The windows passed are kept, each among those of its processor.
 use Prim.Native.Nat.{_+_, _-_, _≤_, _<_}
-use mathlib.Core.Path.{_≡_}
+use mathlib.Core.Path.{_≡_, refl}
 use native.Mathlib.Numerals.{add-one}
 use native.Mathlib.Omega.{arith}
 use Rattle.rules.specs.Workflow.{window-place, window-of, windows-on, workflow}
@@ -9,22 +9,24 @@ use Rattle.good.specs.ReadIsGood.{read-is-good}
 use Rattle.reader.specs.Meaning.{meant-view}
 use Rattle.busy.specs.Kept.{InOrder, Keeps}
 use Rattle.busy.specs.KeptLaws.{first-at-most}
-use Rattle.busy.specs.Put.{WithInterval}
+use Rattle.busy.specs.Put.{WithInterval, put-settled}
 use Rattle.busy.specs.PlaceLaws.{place-in-reach}
 use Rattle.busy.specs.KeepsLaws.{keeps-none, keeps-more}
 use borrow.Author.Needs.{needs}
+use Rattle.downtime.specs.Windows.{kept-windows}
 use Rattle.downtime.proofs.busy_at_first.Statement.{statement}
 use Rattle.downtime.proofs.busy_at_first.Tie as tie
 
 abbrev Inv-loop : tie.InvT-loop
-Inv-loop s v processors₀ e₀ processors e = (e ≤ v .windows) × Keeps (windows-on s (meant-view v) e) e processors
+Inv-loop s v processors₀ e₀ processors e =
+    (e ≤ v .windows) × Keeps (windows-on s (meant-view v) e) e processors × (processors ≡ kept-windows s (meant-view v) e)
 
 abbrev μ-loop : tie.MeasureT-loop
 μ-loop s v processors₀ e₀ processors e = v .windows - e
 
 loop-holds : tie.Need-loop-holds Inv-loop μ-loop
-unfolding windows-on
-loop-holds c = (omega arith, keeps-none)
+unfolding windows-on kept-windows
+loop-holds c = (omega arith, keeps-none, refl)
 
 window-of-requires : tie.Need-window-of-requires Inv-loop μ-loop
 window-of-requires c κs = search needs
@@ -112,7 +114,7 @@ put c =
     }
 
 loop-again : tie.Need-loop-again Inv-loop μ-loop
-unfolding windows-on window-of
+unfolding windows-on window-of kept-windows
 loop-again c =
     let w = c .before .before .before .before .before .before .before .before .before .before .before .before in
     let loop = w .before .before .before .loop in
@@ -121,6 +123,7 @@ loop-again c =
       omega (arith, w .before .if1 .taken),
       rw (add-one (loop .e), ← processor, ← begin, ← end)
           (rw (add-one (loop .e)) at (keeps-more (loop .inv .1) (processor-below w) (omega (arith, room w)) some (put c))),
+      rw (add-one (loop .e), ← processor, ← begin, ← end, ← loop .inv .2) (put-settled (put c)),
     )
 
 returns : tie.Need-returns Inv-loop μ-loop
@@ -129,7 +132,7 @@ returns c =
     let loop = c .before .before .loop in
     let v = c .before .before .before .before .args .v in
     let all : loop .e ≡ v .windows = omega (arith, loop .inv .0, c .if1 .left) in
-    rw all at (loop .inv .1)
+    (rw all at (loop .inv .2), rw all at (loop .inv .1))
 
 pub busy-at-first-spec : {M : Type 1} → statement M
 busy-at-first-spec =

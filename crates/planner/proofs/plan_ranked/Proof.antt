@@ -54,7 +54,7 @@ place-requires c κs =
     let total = outset .before .before .before in
     let charges = total .before .before .before .before .charges-of in
     let start = entry total in
-    let keeps = outset .busy-at-first .ensures in
+    let keeps = outset .busy-at-first .ensures .1 in
     let few = read-is-good (start .args .s .now) (start .pre .0) .windows-in in (
       start .pre .0,
       (
@@ -92,13 +92,13 @@ returns-2 c =
     let place = c .before .before .before .before .before .before in
     let W = flow (priced place .before .before .before) in
     let late = sym (c .before .before .before .before .before .too-late .ensures) ∙ c .before .before .before .before .if2 .taken in
-    rw (placed place, after-deadline W (all-rows W) (placed-as (in-range (priced place)) (priced place .busy-at-first .ensures) (place .place .ensures) .length-is) late) (refused-plan columns-first 11 _)
+    rw (placed place, after-deadline W (all-rows W) (placed-as (in-range (priced place)) (priced place .busy-at-first .ensures .1) (place .place .ensures) .length-is) late) (refused-plan columns-first 11 _)
 
 returns-3 : tie.Need-returns-3
 unfolding workflow
 returns-3 c =
     let place = c .before .before in
-    rw (placed place) (plan-in-time (placed-as (in-range (priced place)) (priced place .busy-at-first .ensures) (place .place .ensures)) (sym (c .before .too-late .ensures) ∙ c .if2 .left))
+    rw (placed place) (plan-in-time (placed-as (in-range (priced place)) (priced place .busy-at-first .ensures .1) (place .place .ensures)) (sym (c .before .too-late .ensures) ∙ c .if2 .left))
 
 pub plan-ranked-spec : {M : Type 1} → statement M
 plan-ranked-spec =
