@@ -1,7 +1,7 @@
 -- Two inputs that agree up to N bytes have the same record wherever it ends within N: the same bytes are looked at, and the same
 -- comparisons with the length made.
 use mathlib.Core.Path.{_≡_, sym}
-use Prim.Native.Nat.{ℕ, suc, _+_, _*_, _-_, _<_, _≤_}
+use Prim.Native.Nat.{ℕ, suc, _+_, _-_, _<_, _≤_}
 use native.Mathlib.Omega.{arith}
 use mathlib.Core.List.{List, []}
 use lib.ListN.{length}

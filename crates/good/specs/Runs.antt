@@ -8,7 +8,7 @@ use mathlib.Core.Bool.{Bool, true, false, cond}
 use mathlib.Core.List.{List}
 use lib.Dec.{eqb}
 use borrow.Author.Tests.{eqb-true, eqb-false}
-use Rattle.rules.specs.Fields.{Kind, M, E, size, body, kind-byte, byte, M-processor, M-begin, E-from, E-to}
+use Rattle.rules.specs.Fields.{Kind, M, E, size, kind-byte, byte, M-processor, M-begin, E-from, E-to}
 use Rattle.rules.specs.Records.{Record, Read, read, stopped, window-at, edge-at}
 use Rattle.rules.specs.Reading.{then, each, how-many, run-part, windows-part, edges-part}
 use Rattle.good.specs.Good.{GoodEdge, GoodWindow, Above, Apart}

@@ -9,12 +9,12 @@ use Rattle.rules.specs.Orders as orders
 use Rattle.rules.specs.Orders.{tie, higher, first}
 use Rattle.rules.specs.Workflow.{Interval, Workflow, busy-with}
 use Rattle.rules.specs.Ranks.{cost, lowest-cost, rank-by, rank-within, R, next-task}
-use Rattle.rules.specs.Start.{arrival, arrived, ready, start-on}
+use Rattle.rules.specs.Start.{arrival, arrived, ready}
 use Rattle.rules.specs.Rows.{Placed, is-placed, taken-up, busy}
 use Rattle.rules.specs.Method.{Method}
 use Rattle.rules.specs.Placing.{ready-for, start-of, finish-of, RB, RCB, question, row-on, place-next, place}
 use Rattle.laws.specs.SameStart.{SameStart, same-start-more}
-use Rattle.laws.specs.Method.{Same, ChoosesAmong}
+use Rattle.laws.specs.Method.{ChoosesAmong}
 
 unfoldable pub begun : (ℕ → List Interval) → (clock : ℕ) → Workflow → Workflow
 begun busy-at-first clock W =

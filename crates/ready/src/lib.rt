@@ -1,6 +1,6 @@
 // When a task's data is ready on each processor.
 ghost use mathlib.Core.Path.{_≡_};
-ghost use Prim.Native.Nat.{_≤_, _<_, max};
+ghost use Prim.Native.Nat.{_≤_, _<_};
 ghost use lib.ListN.{length};
 ghost use Rattle.rules.specs.Start.{arrived};
 ghost use Rattle.reader.specs.Meaning.{ViewOf};

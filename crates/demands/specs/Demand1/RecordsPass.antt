@@ -5,7 +5,7 @@ use mathlib.Core.Bool.{Bool, true, false, cond}
 use mathlib.Core.List.{List}
 use native.Mathlib.Omega.{arith}
 use lib.Dec.{eqb}
-use Rattle.rules.specs.Fields.{H, D, M, T, W, E, size, kind-byte, byte, H-tasks, H-processors, D-deadline}
+use Rattle.rules.specs.Fields.{H, D, M, T, W, E, size, kind-byte, byte, D-deadline}
 use Rattle.rules.specs.Records.{read, deadline-at, window-at, edge-at}
 use Rattle.rules.specs.Reading.{then, no-deadline, by, deadline-part, prices-part, windows-part, task-part, tasks-part, edges-part}
 use Rattle.rules.specs.Reading.{Request, read-request}
