@@ -1,5 +1,6 @@
 -- Demand 1: every byte string is answered, one way, a refusal changes nothing, and no label off the list gets through. Below: what reading is (`Wanted`,
--- `Reads`), that reading does just that (`Reading`), and the request that stands in the bytes (`Stands`). The other files are what these rest on.
+-- `Reads`), that reading does just that (`Reading`), the request that stands in the bytes (`Stands`), and what a fifth window is (`FifthWindow`). The other files
+-- are what these rest on.
 pub mod Wanted
 pub mod Tells
 pub mod Reads
@@ -17,6 +18,7 @@ pub mod RecordsPass
 pub mod Stands
 pub mod Reading
 pub mod LabelBytes
+pub mod FifthWindow
 use Prim.Native.Nat.{ℕ, _+_, _≤_, _<_}
 use mathlib.Core.Path.{_≡_, refl, sym, ap, _∙_}
 use mathlib.Core.List.{List, List·Memᴰ}

@@ -107,7 +107,8 @@ above first second before at =
 unfoldable pub apart : List ℕ → (before at : ℕ) → Bool
 apart s before at = not (eqb (M-processor s before) (M-processor s at)) || leb (M-end s before) (M-begin s at)
 
--- "a processor's fifth window": windows rise by processor, so that the four before it are of its processor where the fourth before it is.
+-- "a processor's fifth window": windows rise by processor, so that the four before it are of its processor where the fourth before it is
+-- (`fifth-after-four` in the demands).
 unfoldable pub fifth : List ℕ → (at k : ℕ) → Bool
 fifth s at k = leb 4 k && eqb (M-processor s (at - 4 * size M)) (M-processor s at)
 

@@ -67,7 +67,8 @@ NumbersDue s at header = Unit {0}
 NumbersDue s at deadline = Unit {0}
 NumbersDue s at end = Unit {0}
 
--- "a processor's fifth window": windows rise by processor, so those four before it are all of its processor where the first of them is.
+-- "a processor's fifth window": windows rise by processor, so the four before it are all of its processor where the first of them is
+-- (`fifth-after-four`).
 abbrev pub IsFifth : List ℕ → (at before : ℕ) → Type 0
 IsFifth s at before = (4 ≤ before) × (M-processor s (at - 4 * size M) ≡ M-processor s at)
 
