@@ -9,9 +9,13 @@ use Rattle.laws.specs.SameStart.{SameStart}
 use Rattle.laws.specs.Stores.{at}
 use Rattle.busy.specs.declared.Processors.{Processors}
 
--- How much is kept: 64 windows and 64 rows.
+-- What the processors may be busy with at the outset: 64 windows.
+abbrev pub outset-most : ℕ
+outset-most = 64
+
+-- How much is kept: these, and 64 rows.
 abbrev pub room-most : ℕ
-room-most = 64 + 64
+room-most = outset-most + 64
 
 -- The interval that is kept at k.
 abbrev pub span : (begins ends : List ℕ) → ℕ → Interval

@@ -11,7 +11,7 @@ use Rattle.rules.specs.Rows.{Placed, is-placed, busy}
 use Rattle.laws.specs.Bounds.{first-most, added-most, cost-most}
 use Rattle.laws.specs.Unmarked.{sum-unmarked, count-unmarked}
 use Rattle.laws.specs.Stores.{at}
-use Rattle.busy.specs.Kept.{Keeps}
+use Rattle.busy.specs.Kept.{outset-most, Keeps}
 use Rattle.placing.specs.Placed.{Columns}
 use Rattle.placing.specs.State.{State}
 
@@ -28,9 +28,9 @@ intervals state = at (state .processors .first) 16
 pub record Kept (W : Workflow) (rows : List Placed) (k : ℕ) (state : State) : Type 0 where
   pub columns : Columns rows (state .sits) (state .starts) (state .ends) (state .costs)
   pub marks : Marks rows (state .placed)
-  -- What the processors are busy with: at most 64 intervals at first, and k rows.
+  -- What the processors are busy with: so much at the outset, and k rows.
   pub processors : Keeps (busy W rows) (intervals state) (state .processors)
-  pub few-intervals : intervals state ≤ 64 + k
+  pub few-intervals : intervals state ≤ outset-most + k
   pub rb-is : state .rb ≡ W .budget - rules.spent rows
   pub spent-is : state .spent ≡ rules.spent rows
   pub rcb-is : state .rcb ≡ sum-unmarked (W .tasks) (is-placed rows) (lowest-cost W)

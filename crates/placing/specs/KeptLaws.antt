@@ -21,7 +21,7 @@ use Rattle.laws.specs.NextTask.{next-task-free}
 use Rattle.laws.specs.Stores.{at}
 use Rattle.laws.specs.Filled.{AtMost}
 use Rattle.busy.specs.declared.Processors.{Processors}
-use Rattle.busy.specs.Kept.{Keeps, EndBy}
+use Rattle.busy.specs.Kept.{outset-most, Keeps, EndBy}
 use Rattle.busy.specs.KeepsLaws.{keeps-end-by}
 use Rattle.costs.specs.CostLaws.{lowest-cost-at-most}
 use Rattle.order.specs.Standing.{placing-order}
@@ -33,7 +33,7 @@ use Rattle.placing.specs.Arrays.{marks-first}
 -- At first no task is placed.
 pub kept-first :
     (W : Workflow) {sits starts ends costs : List ℕ} {processors : Processors} {rb rcb : ℕ} → Columns [] sits starts ends costs
-    → Keeps (W .busy-at-first) (at (processors .first) 16) processors → at (processors .first) 16 ≤ 64 → rb ≡ W .budget → rcb ≡ cheapest-total W
+    → Keeps (W .busy-at-first) (at (processors .first) 16) processors → at (processors .first) 16 ≤ outset-most → rb ≡ W .budget → rcb ≡ cheapest-total W
     → Kept W [] 0 (without-rows sits starts ends costs processors rb rcb)
 unfolding is-placed busy spent length-of cheapest-total
 kept-first W none keeps few budget cheapest =
