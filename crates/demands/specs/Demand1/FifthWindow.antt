@@ -1,8 +1,8 @@
 -- A processor's fifth window has four of its processor right before it: windows rise by processor, so they stand between two of one.
-use Prim.Native.Nat.{ℕ, zero, suc, _+_, _*_, _-_, _≤_, _<_}
+use Prim.Native.Nat.{ℕ, zero, suc, _+_, _*_, _-_, _≤_}
 use mathlib.Core.Path.{_≡_, refl, ap, _∙_, subst}
 use mathlib.Core.List.{List}
-use mathlib.Core.Logic.{_⊎_, inl, inr}
+use mathlib.Core.Logic.{inl, inr}
 use native.Mathlib.Omega.{arith}
 use Rattle.rules.specs.Fields.{M, size, body, M-processor, M-begin}
 use Rattle.demands.specs.Demand1.Wanted.{Wanted, header, deadline, processor, task, minutes, window, edge, end, kind-of, After, IsAbove, NumbersDue, IsFifth}
