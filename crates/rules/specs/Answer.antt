@@ -33,14 +33,18 @@ too-late (by d) length = ltb d length
 unfoldable pub placed-outcome : Workflow → List Placed → Outcome
 placed-outcome W rows = refuse (too-late (W .deadline) (length-of rows)) 11 (length-of rows) (plan W rows)
 
--- "After reading: 7, 8, 9, then placing, then 11", by any method, with so many rows lent.
+-- "After reading: 7, 8, 9, then placing, then 11", with so many rows lent, where placing gives these rows.
 -- 7: "fewer than n rows lent", place n; 8: "lowest task with a path back to itself"; 9: "the cheapest total".
-unfoldable pub outcome-by : Method → Workflow → ℕ → Outcome
-outcome-by M W lent =
+unfoldable pub outcome-of : Workflow → ℕ → List Placed → Outcome
+outcome-of W lent rows =
     refuse (ltb lent (W .tasks)) 7 (W .tasks)
     (refuse (cyclic W) 8 (lowest-in-cycle W)
     (refuse (ltb (W .budget) (cheapest-total W)) 9 (cheapest-total W)
-    (placed-outcome W (place M W (W .tasks)))))
+    (placed-outcome W rows)))
+
+-- All tasks placed by any method.
+unfoldable pub outcome-by : Method → Workflow → ℕ → Outcome
+outcome-by M W lent = outcome-of W lent (place M W (W .tasks))
 
 -- Refusals 1 to 6 are those of reading.
 unfoldable pub outcome-read : List ℕ → Read Request → ℕ → Outcome

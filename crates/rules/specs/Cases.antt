@@ -13,18 +13,18 @@ use Rattle.rules.specs.Fields.{E-transfer}
 use Rattle.rules.specs.Records.{Read, read, stopped, unless, first-fault, opening-by, opening, answered, record-at, within, header-at, deadline-at}
 use Rattle.rules.specs.Records.{price-checks, price-at, minimum-at, processor-at, follows, above, apart, fifth, window-ranges, window-at}
 use Rattle.rules.specs.Records.{task-at, minutes-at, edge-ranges, edge-at, end-at}
-use Rattle.rules.specs.Reading.{then, each, deadline-part, prices-part, how-many, run-part, windows-part, task-part, tasks-part, edges-part}
+use Rattle.rules.specs.Reading.{then, each, deadline-part, prices-part, counted, how-many, run-part, windows-part, task-part, tasks-part, edges-part}
 use Rattle.rules.specs.Reading.{nothing-after, Request, read-request}
 use Rattle.rules.specs.Workflow.{processor-kind, processor-minimum, past-processors, processor-place, window-place, task-place, minutes-place}
 use Rattle.rules.specs.Workflow.{edge-place, read-in, busy-with, window-of, windows-on, workflow}
 use Rattle.rules.specs.Labels.{part-of, label-place, label-part, label-in, label-lookup, label}
 use Rattle.rules.specs.Cycle.{linked, leads-through, back-to-itself, cyclic, lowest-in-cycle}
-use Rattle.rules.specs.Ranks.{cost, lowest-cost, cheapest-total, rank-by, rank-within, R, next-task}
+use Rattle.rules.specs.Ranks.{cost, lowest-cost, cheapest-total, rank-by, rank-within, R, waits, may-be-next, next-task}
 use Rattle.rules.specs.Start.{arrival, arrived, ready, overlap, free, latest-end, if-free, least-end, start-on}
 use Rattle.rules.specs.Method.{best, may-be-taken, latest-finish, B, F, or-one, score, preferred, HBCS}
 use Rattle.rules.specs.Rows.{Row, row-of, is-placed, busy, spent, length-of}
-use Rattle.rules.specs.Placing.{ready-for, start-of, finish-of, RB, RCB, question, row-on, place-next, place}
-use Rattle.rules.specs.Answer.{Answer, refused, refuse, too-late, placed-outcome, outcome-by, outcome-read, outcome, answer-of, answer, written, rows-after}
+use Rattle.rules.specs.Placing.{ready-for, start-of, finish-of, RB, RCB, question, row-on, place-task, place-next, place}
+use Rattle.rules.specs.Answer.{Answer, refused, refuse, too-late, placed-outcome, outcome-of, outcome-by, outcome-read, outcome, answer-of, answer, written, rows-after}
 use Rattle.rules.specs.Multiplied.{multiplied-deadline, multiplied-interval, multiplied}
 use Rattle.rules.specs.Text.{bytes, digits, decimal, line, first-line, row-line, lines, row-lines, text}
 
@@ -99,16 +99,16 @@ unfolding
     unless first-fault opening-by opening answered record-at within
     header-at deadline-at price-checks price-at minimum-at processor-at follows above apart fifth window-ranges window-at task-at minutes-at
     edge-ranges edge-at end-at
-    then each deadline-part prices-part how-many run-part windows-part task-part tasks-part edges-part nothing-after read-request
+    then each deadline-part prices-part counted how-many run-part windows-part task-part tasks-part edges-part nothing-after read-request
     processor-kind processor-minimum past-processors processor-place window-place task-place minutes-place edge-place read-in
     busy-with window-of windows-on workflow
     part-of label-place label-part label-in label-lookup label
     linked leads-through back-to-itself cyclic lowest-in-cycle
-    cost lowest-cost cheapest-total rank-by rank-within R next-task
+    cost lowest-cost cheapest-total rank-by rank-within R waits may-be-next next-task
     arrival arrived ready overlap free latest-end if-free least-end start-on
     best may-be-taken latest-finish B F or-one score preferred HBCS
-    row-of is-placed busy ready-for start-of finish-of spent length-of RB RCB question row-on place-next place
-    refuse too-late placed-outcome outcome-by outcome-read outcome answer-of answer written rows-after
+    row-of is-placed busy ready-for start-of finish-of spent length-of RB RCB question row-on place-task place-next place
+    refuse too-late placed-outcome outcome-of outcome-by outcome-read outcome answer-of answer written rows-after
     bytes digits decimal line first-line row-line lines row-lines text
 given c = record { answer = answer (c .input) (length (c .lent)); rows = rows-after (c .input) (c .lent) }
 

@@ -119,6 +119,59 @@ down-from begin =
 cheaper-down : List ℕ → List ℕ
 cheaper-down windows = cheaper-of (P-record 0 2 ++ P-record 1 1 ++ windows)
 
+-- A task on one processor at price 1; tasks there, and their edges.
+alone : ℕ → String → ℕ → List ℕ
+alone task label minutes = T-record task label ++ W-record task 0 minutes
+
+chain : ℕ → List ℕ → List ℕ
+chain tasks rest = H-record tasks 1 50 ++ P-record 0 1 ++ rest ++ bytes "Z"
+
+-- All minutes are 0.
+all-markers : List ℕ
+all-markers = chain 2 (alone 0 "one     " 0 ++ alone 1 "two     " 0 ++ E-record 1 0 0)
+
+-- Task 0 waits for marker 2, and task 1 for none; the R of all three is 5. So task 1 comes first, then the marker.
+marker-between : List ℕ
+marker-between = chain 3 (alone 0 "one     " 5 ++ alone 1 "two     " 5 ++ alone 2 "marker  " 0 ++ E-record 2 0 0)
+
+-- Marker 0 waits for marker 1, which waits for task 2; the R of both is 0.
+marker-before : List ℕ
+marker-before = chain 3 (alone 0 "last    " 0 ++ alone 1 "marker  " 0 ++ alone 2 "first   " 5 ++ E-record 1 0 0 ++ E-record 2 1 0)
+
+-- Two markers and a task wait for task 0.
+two-markers : List ℕ
+two-markers =
+    chain 4 (alone 0 "one     " 5 ++ alone 1 "marker  " 0 ++ alone 2 "marker  " 0 ++ alone 3 "two     " 3 ++ E-record 0 1 0 ++ E-record 0 2 0 ++ E-record 2 3 0)
+
+-- A marker whose data is there at minute 3, when the processor goes down.
+marker-down : List ℕ
+marker-down = H-record 2 1 50 ++ P-record 0 1 ++ M-record 0 3 9 ++ alone 0 "one     " 3 ++ alone 1 "marker  " 0 ++ E-record 0 1 0 ++ bytes "Z"
+
+-- A marker on the second processor, 19 minutes on the first. Its data is there at minute 4, while task 1 runs there.
+marker-in-row : List ℕ
+marker-in-row = waits 3 (beside 2 "marker  " 19 0 ++ E-record 0 1 1 ++ E-record 0 2 2)
+
+-- Two processors for nothing, and task 0 on the first: a marker after it has its data on the second at minute 5.
+marker-after : List ℕ → List ℕ → ℕ → List ℕ
+marker-after deadline rest tasks =
+    H-record tasks 2 0 ++ deadline ++ P-record 0 0 ++ P-record 1 0 ++ beside 0 "one     " 2 20 ++ beside 1 "marker  " 20 0 ++ rest ++ E-record 0 1 3 ++ bytes "Z"
+
+-- Marker 0 waits for task 1 and for marker 2, which waits for data from two processors; the R of both markers is 0.
+marker-for-two : List ℕ
+marker-for-two =
+    H-record 4 2 0
+    ++ P-record 0 0
+    ++ P-record 1 0
+    ++ beside 0 "last    " 0 0
+    ++ beside 1 "one     " 5 20
+    ++ beside 2 "marker  " 0 0
+    ++ beside 3 "two     " 20 4
+    ++ E-record 1 0 0
+    ++ E-record 1 2 4
+    ++ E-record 2 0 0
+    ++ E-record 3 2 3
+    ++ bytes "Z"
+
 -- The sample with other processor records: it has two `P`s behind its `H`.
 abbrev pub with-processors : List ℕ → List ℕ → List ℕ
 with-processors processors sample = take 7 sample ++ processors ++ drop 13 sample
@@ -195,14 +248,31 @@ corners =
     ∷ planned-case (cheaper-down (M-record 0 9 12 ++ M-record 1 5 8)) (planned 1 18 10 40) (row 1 8 18 10 ∷ [])
     ∷ refused-case (cheaper-down (M-record 1 0 5 ++ M-record 0 9 12)) 3 23
     ∷ planned-case (cheaper-down (four-windows ++ M-record 1 0 5)) (planned 1 15 10 40) (row 1 5 15 10 ∷ [])
+    ∷ planned-case all-markers (planned 2 0 0 50) (row 0 0 0 0 ∷ row 0 0 0 0 ∷ [])
+    ∷ planned-case marker-between (planned 3 10 10 40) (row 0 5 10 5 ∷ row 0 0 5 5 ∷ row 0 0 0 0 ∷ [])
+    ∷ planned-case marker-before (planned 3 5 5 45) (row 0 5 5 0 ∷ row 0 5 5 0 ∷ row 0 0 5 5 ∷ [])
+    ∷ planned-case two-markers (planned 4 8 8 42) (row 0 0 5 5 ∷ row 0 5 5 0 ∷ row 0 5 5 0 ∷ row 0 5 8 3 ∷ [])
+    ∷ planned-case (down (M-record 0 0 10) 0) (planned 1 0 0 50) (row 0 0 0 0 ∷ [])
+    ∷ planned-case marker-down (planned 2 3 3 47) (row 0 0 3 3 ∷ row 0 3 3 0 ∷ [])
+    ∷ planned-case marker-in-row (planned 3 7 0 0) (row 0 0 2 0 ∷ row 1 3 7 0 ∷ row 1 4 4 0 ∷ [])
+    ∷ planned-case (marker-after [] [] 2) (planned 2 5 0 0) (row 0 0 2 0 ∷ row 1 5 5 0 ∷ [])
+    ∷ planned-case (marker-after (D-record 5) [] 2) (planned 2 5 0 0) (row 0 0 2 0 ∷ row 1 5 5 0 ∷ [])
+    ∷ refused-case (marker-after (D-record 4) [] 2) 11 5
+    ∷ planned-case (marker-after [] (beside 2 "two     " 14 6) 3) (planned 3 6 0 0) (row 0 0 2 0 ∷ row 1 5 5 0 ∷ row 1 0 6 0 ∷ [])
+    ∷ planned-case marker-for-two (planned 4 7 0 0) (row 0 7 7 0 ∷ row 0 0 5 0 ∷ row 0 7 7 0 ∷ row 1 0 4 0 ∷ [])
+    ∷ planned-case (billed 20 0 2 5) (planned 1 0 5 15) (row 0 0 0 5 ∷ [])
+    ∷ refused-case (billed 4 0 2 5) 9 5
+    ∷ planned-case (billed 4_000 2_000 2 5) (planned 1 2_000 4_000 0) (row 0 0 2_000 4_000 ∷ [])
+    ∷ refused-case (billed 20 2_001 2 5) 4 22
     ∷ []
 
 pub in-corners : All-given corners
 unfolding
     given near-means best-past-budget equal-finishes two-tasks deadlines beside waits gap-of between-rows two-gaps ready-past-the-gap
-    billed cheaper-of down four-windows past-two-bytes down-from cheaper-down sample S corners
+    billed cheaper-of down four-windows past-two-bytes down-from cheaper-down alone chain all-markers marker-between marker-before two-markers marker-down
+    marker-in-row marker-after marker-for-two sample S corners
 in-corners =
-    (refl, (refl, (refl, (refl, (refl, (refl, (refl, (refl, (refl, (refl, (refl, (refl, (refl, (refl, (refl, (refl, (refl, (refl, (refl, (refl, (refl, (refl, (refl, (refl, (refl, (refl, (refl, (refl, (refl, (refl, (refl, (refl, (refl, (refl, (refl, (refl, (refl, (refl, (refl, (refl, (refl, (refl, (refl, (refl, (refl, (refl, (refl, (refl, (refl, (refl, (refl, (refl, (refl, (refl, (refl, (refl, (refl, (refl, (refl, (refl, (refl, (refl, (refl, (refl, (refl, (refl, (refl, (refl, tt))))))))))))))))))))))))))))))))))))))))))))))))))))))))))))))))))))
+    (refl, (refl, (refl, (refl, (refl, (refl, (refl, (refl, (refl, (refl, (refl, (refl, (refl, (refl, (refl, (refl, (refl, (refl, (refl, (refl, (refl, (refl, (refl, (refl, (refl, (refl, (refl, (refl, (refl, (refl, (refl, (refl, (refl, (refl, (refl, (refl, (refl, (refl, (refl, (refl, (refl, (refl, (refl, (refl, (refl, (refl, (refl, (refl, (refl, (refl, (refl, (refl, (refl, (refl, (refl, (refl, (refl, (refl, (refl, (refl, (refl, (refl, (refl, (refl, (refl, (refl, (refl, (refl, (refl, (refl, (refl, (refl, (refl, (refl, (refl, (refl, (refl, (refl, (refl, (refl, (refl, (refl, (refl, (refl, tt))))))))))))))))))))))))))))))))))))))))))))))))))))))))))))))))))))))))))))))))))))
 
 -- A least amount of 7 for 3 minutes at 2 is 42 for 9 minutes at 4: of the request so multiplied, and of the multiplied workflow.
 pub minimum-multiplied :

@@ -50,11 +50,12 @@ row-on W so-far i j =
       cost = cost W i j;
     }
 
--- The next task, on the processor that the method takes; the newest stands first.
+-- Task i is placed on the processor that the method takes; the newest stands first.
+unfoldable pub place-task : Method → Workflow → List Placed → ℕ → List Placed
+place-task M W so-far i = record { task = i; row = row-on W so-far i (M (question W so-far i)) } ∷ so-far
+
 unfoldable pub place-next : Method → Workflow → List Placed → List Placed
-place-next M W so-far =
-    let i = next-task W (is-placed so-far) in
-    record { task = i; row = row-on W so-far i (M (question W so-far i)) } ∷ so-far
+place-next M W so-far = place-task M W so-far (next-task W (is-placed so-far))
 
 -- The first k tasks of the placing order.
 unfoldable pub place : Method → Workflow → ℕ → List Placed

@@ -1,8 +1,8 @@
 -- Ranks and placing order.
 use Prim.Native.Nat.{ℕ, zero, suc, _+_, _*_, max}
-use mathlib.Core.Bool.{Bool, cond, not}
+use mathlib.Core.Bool.{Bool, cond, not, _&&_}
 use lib.Dec.{eqb}
-use Rattle.rules.specs.Folds.{sum, largest, lowest}
+use Rattle.rules.specs.Folds.{sum, largest, lowest, any}
 use Rattle.rules.specs.Orders.{tie, higher, among, first}
 use Rattle.rules.specs.Workflow.{Workflow}
 
@@ -31,6 +31,14 @@ rank-within W (suc most) = rank-by W (rank-within W most)
 unfoldable pub R : Workflow → ℕ → ℕ
 R W = rank-within W (W .tasks)
 
--- "Tasks are placed by falling R; equal R, lower number first": the next of those not placed.
+-- Task i waits for a predecessor that is not placed.
+unfoldable pub waits : Workflow → (ℕ → Bool) → ℕ → Bool
+waits W placed i = any (W .edges) (λ e. eqb (W .to e) i && not (placed (W .from e)))
+
+-- "unplaced tasks whose predecessors are all placed"
+unfoldable pub may-be-next : Workflow → (ℕ → Bool) → ℕ → Bool
+may-be-next W placed i = not (placed i) && not (waits W placed i)
+
+-- "The next task placed is the highest rank among unplaced tasks whose predecessors are all placed; ties to lower number."
 unfoldable pub next-task : Workflow → (ℕ → Bool) → ℕ
-next-task W placed = first (W .tasks) (among (λ i. not (placed i)) (higher (R W) tie))
+next-task W placed = first (W .tasks) (among (may-be-next W placed) (higher (R W) tie))

@@ -1,6 +1,6 @@
 -- Reading a request: "Records are checked from the front and the first fault ends reading."
 use Prim.Native.Nat.{ℕ, suc, zero, _+_}
-use mathlib.Core.Bool.{cond}
+use mathlib.Core.Bool.{Bool, true, false, cond}
 use mathlib.Core.List.{List}
 use lib.ListN.{length}
 use lib.Dec.{ltb, eqb}
@@ -32,10 +32,15 @@ deadline-part s at =
 unfoldable pub prices-part : List ℕ → ℕ → ℕ → Read (Unit {0})
 prices-part s m at = each (processor-at s) at m
 
+-- 1 more than what `later` counts, where the test holds; else 0, and what comes later is not looked at.
+unfoldable pub counted : Bool → (later : Unit {0} → ℕ) → ℕ
+counted true later = suc (later tt)
+counted false later = 0
+
 -- How many of the next `most` records, each as long as this kind's, are of this kind, before one of another.
 unfoldable pub how-many : List ℕ → Kind → (at most : ℕ) → ℕ
 how-many s kind at zero = 0
-how-many s kind at (suc most) = cond (eqb (byte s at) (kind-byte kind)) (suc (how-many s kind (at + size kind) most)) 0
+how-many s kind at (suc most) = counted (eqb (byte s at) (kind-byte kind)) (λ _. how-many s kind (at + size kind) most)
 
 -- "any number of" one kind "within the limit": those that stand there, and how many. One more than the limit is never read, so that no more need be
 -- looked for (`edges-enough` and `windows-enough`, crate `good`).

@@ -103,7 +103,7 @@ unfoldable pub above : (first second : ℕ → ℕ) → (before at : ℕ) → Bo
 above first second before at =
     ltb (first before) (first at) || (eqb (first before) (first at) && ltb (second before) (second at))
 
--- Nor is it "one that begins before the same processor's previous window ends".
+-- The window at `at` is not "one that begins before the same processor's previous window ends".
 unfoldable pub apart : List ℕ → (before at : ℕ) → Bool
 apart s before at = not (eqb (M-processor s before) (M-processor s at)) || leb (M-end s before) (M-begin s at)
 
@@ -135,14 +135,14 @@ task-at s at i =
     let label = T-label at in
     record-at s at T (unless (eqb number i) 3 ∷ unless (leb 1 (label-length s label)) 5 ∷ []) (task number label)
 
--- The minutes of task i on processor j: "minutes 1..2,000".
+-- The minutes of task i on processor j: "minutes 0..2,000".
 unfoldable pub minutes-at : List ℕ → ℕ → ℕ → ℕ → Read Record
 minutes-at s at i j =
     let number = W-task s at in
     let processor = W-processor s at in
     let w = W-minutes s at in
     record-at s at W
-    (unless (eqb number i) 3 ∷ unless (eqb processor j) 3 ∷ unless (within 1 w 2_000) 4 ∷ [])
+    (unless (eqb number i) 3 ∷ unless (eqb processor j) 3 ∷ unless (within 0 w 2_000) 4 ∷ [])
     (minutes number processor w)
 
 -- "transfer 0..1,000, edge ends below n and unequal": "4 in field order"
