@@ -6,7 +6,7 @@ use native.Mathlib.Omega.{arith}
 use mathlib.Core.List.{List}
 use Rattle.rules.specs.Fields.{Kind, D, Q, M, T, W, E, size, body, D-deadline}
 use Rattle.rules.specs.Records.{Record, Read, read, stopped}
-use Rattle.rules.specs.Reading.{then, each, deadline-part, prices-part, how-many, run-part, windows-part, task-part, tasks-part, edges-part}
+use Rattle.rules.specs.Reading.{then, each, deadline-part, prices-part, counted, how-many, run-part, windows-part, task-part, tasks-part, edges-part}
 use Rattle.rules.specs.Reading.{nothing-after, Request}
 use Rattle.rules.specs.Workflow.{past-processors}
 use Rattle.good.specs.Reading.{Walks, Steps, by-stride, each-ends}
@@ -63,7 +63,7 @@ module _ {N : ℕ} {s t : List ℕ} (a : Agree N s t) where
       (λ i below. task-part-agrees m (at + i * d) i (omega (arith, suc-mul i d, mul-le-mul-right d below)))
 
   how-many-agrees : (kind : Kind) (at most : ℕ) → at + most * size kind ≤ N → how-many s kind at most ≡ how-many t kind at most
-  unfolding how-many size
+  unfolding counted how-many size
   how-many-agrees kind at zero h = refl
   how-many-agrees kind at (suc most) h =
       let fits = suc-mul most (1 + body kind) in

@@ -57,6 +57,6 @@ pub record Good (s : List ℕ) (r : Request) : Type 0 where
   pub windows-apart : (e : ℕ) → e + 1 < r .windows → Apart s (window-place r e) (window-place r (e + 1))
   pub four-at-most : (e : ℕ) → e + 4 < r .windows → M-processor s (window-place r e) ≡ M-processor s (window-place r (e + 4)) → ⊥
   pub labelled : (i : ℕ) → i < r .tasks → Label s (label-place r i) (label-length s (label-place r i))
-  pub minutes-in : (i j : ℕ) → i < r .tasks → j < r .processors → Between 1 (W-minutes s (minutes-place r i j)) 2_000
+  pub minutes-in : (i j : ℕ) → i < r .tasks → j < r .processors → W-minutes s (minutes-place r i j) ≤ 2_000
   pub edge-in : (e : ℕ) → e < r .edges → GoodEdge s (r .tasks) (edge-place r e)
   pub rises : (e : ℕ) → e + 1 < r .edges → Above (E-from s) (E-to s) (edge-place r e) (edge-place r (e + 1))

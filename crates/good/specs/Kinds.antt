@@ -84,13 +84,13 @@ task-read s at i e =
     (found .ends, label-of-label-length s _ (leb-true _ _ (passed _ 4 _ more .0)))
 
 pub minutes-read : (s : List ℕ) (at i j : ℕ) {next : ℕ} {was : Record} →
-    minutes-at s at i j ≡ read next was → (next ≡ at + size W) × Between 1 (W-minutes s at) 2_000
+    minutes-at s at i j ≡ read next was → (next ≡ at + size W) × (W-minutes s at ≤ 2_000)
 unfolding minutes-at
 minutes-read s at i j e =
     let found = record-read s at W _ _ e in
     let (number, more) = passed _ 2 _ (found .no-fault) in
     let (processor, more) = passed _ 2 _ more in
-    (found .ends, between _ _ _ (passed _ 3 _ more .0))
+    (found .ends, between _ _ _ (passed _ 3 _ more .0) .to-high)
 
 -- A record that is not the first of its kind follows the one before it.
 follows-one : (kind : Kind) (after : ℕ → ℕ → Bool) (at k : ℕ) → follows kind after at k ≡ true → 0 < k → after (at - size kind) at ≡ true

@@ -23,7 +23,7 @@ minutes-steps s i at j next a e = minutes-read s at i j e .0
 pub record TaskRead (s : List ℕ) (m at next : ℕ) : Type 0 where
   pub ends : next ≡ at + (size T + m * size W)
   pub labelled : Label s (T-label at) (label-length s (T-label at))
-  pub minutes-in : (j : ℕ) → j < m → Between 1 (W-minutes s (at + (size T + j * size W))) 2_000
+  pub minutes-in : (j : ℕ) → j < m → W-minutes s (at + (size T + j * size W)) ≤ 2_000
 
 task-part-read : (s : List ℕ) (m at i : ℕ) {next : ℕ} → task-part s m at i ≡ read next tt → TaskRead s m at next
 unfolding task-part

@@ -53,8 +53,7 @@ good-in-range s r g =
           or-zero-at-most _
           (λ below.
           let (i-below, j-below) = and-eq-true-iff _ _ .0 below in
-          g .minutes-in i j (ltb-true _ _ i-below) (ltb-true _ _ j-below) .to-high);
-      minutes-least = λ i j h h′. rw (lt-ltb i _ h, lt-ltb j _ h′) (g .minutes-in i j h h′ .from-low);
+          g .minutes-in i j (ltb-true _ _ i-below) (ltb-true _ _ j-below));
       from-below = λ e h. rw (lt-ltb e _ h) (g .edge-in e h .from-below);
       to-below = λ e h. rw (lt-ltb e _ h) (g .edge-in e h .to-below);
       unequal = λ e h. rw (lt-ltb e _ h) (g .edge-in e h .unequal);

@@ -18,7 +18,6 @@ pub record InRange (W : Workflow) : Type 0 where
   pub first-end-in : (j : ℕ) (v : Interval) → List·Memᴰ v (W .busy-at-first j) → v .end ≤ 20_000
   pub clock-in : W .clock ≤ 20_000
   pub minutes-most : (i j : ℕ) → W .minutes i j ≤ 2_000
-  pub minutes-least : (i j : ℕ) → i < W .tasks → j < W .processors → 1 ≤ W .minutes i j
   pub from-below : (e : ℕ) → e < W .edges → W .from e < W .tasks
   pub to-below : (e : ℕ) → e < W .edges → W .to e < W .tasks
   pub unequal : (e : ℕ) → e < W .edges → W .from e ≡ W .to e → ⊥

@@ -10,28 +10,28 @@ use lib.Dec.{eqb}
 use borrow.Author.Tests.{eqb-true, eqb-false}
 use Rattle.rules.specs.Fields.{Kind, M, E, size, kind-byte, byte, M-processor, M-begin, E-from, E-to}
 use Rattle.rules.specs.Records.{Record, Read, read, stopped, window-at, edge-at}
-use Rattle.rules.specs.Reading.{then, each, how-many, run-part, windows-part, edges-part}
+use Rattle.rules.specs.Reading.{then, each, counted, how-many, run-part, windows-part, edges-part}
 use Rattle.good.specs.Good.{GoodEdge, GoodWindow, Above, Apart}
 use Rattle.good.specs.Reading.{then-read, Steps, Walks, by-stride, each-ends, each-part}
 use Rattle.good.specs.Kinds.{WindowRead, window-read, EdgeRead, edge-read}
 
 pub how-many-at-most : (s : List ℕ) (kind : Kind) (at most : ℕ) → how-many s kind at most ≤ most
-unfolding how-many
+unfolding counted how-many
 how-many-at-most s kind at zero = omega arith
 how-many-at-most s kind at (suc most) = go (eqb (byte s at) (kind-byte kind)) (how-many-at-most s kind (at + size kind) most)
   where
-    go : (t : Bool) {k : ℕ} → k ≤ most → cond t (suc k) 0 ≤ suc most
+    go : (t : Bool) {k : ℕ} → k ≤ most → counted t (λ _. k) ≤ suc most
     go true few = omega arith
     go false few = omega arith
 
 -- Those are of this kind, and the next is not.
 pub of-that-kind : (s : List ℕ) (kind : Kind) (at most e : ℕ) → e < how-many s kind at most → byte s (at + e * size kind) ≡ kind-byte kind
-unfolding how-many
+unfolding counted how-many
 of-that-kind s kind at zero e h = absurd (omega arith)
 of-that-kind s kind at (suc most) e h = go (eqb (byte s at) (kind-byte kind)) refl (of-that-kind s kind (at + size kind) most) e h
   where
     go : (t : Bool) → eqb (byte s at) (kind-byte kind) ≡ t →
-        ((e : ℕ) → e < how-many s kind (at + size kind) most → byte s (at + size kind + e * size kind) ≡ kind-byte kind) → (e : ℕ) → e < cond t (suc (how-many s kind (at + size kind) most)) 0 →
+        ((e : ℕ) → e < how-many s kind (at + size kind) most → byte s (at + size kind + e * size kind) ≡ kind-byte kind) → (e : ℕ) → e < counted t (λ _. how-many s kind (at + size kind) most) →
         byte s (at + e * size kind) ≡ kind-byte kind
     go true is later zero h = let here : at + 0 * size kind ≡ at = omega arith in rw here (eqb-true _ _ is)
     go true is later (suc e) h =
@@ -41,14 +41,14 @@ of-that-kind s kind at (suc most) e h = go (eqb (byte s at) (kind-byte kind)) re
 
 pub then-another : (s : List ℕ) (kind : Kind) (at most : ℕ) → how-many s kind at most < most →
     byte s (at + how-many s kind at most * size kind) ≡ kind-byte kind → ⊥
-unfolding how-many
+unfolding counted how-many
 then-another s kind at zero h e = omega arith
 then-another s kind at (suc most) h e = go (eqb (byte s at) (kind-byte kind)) refl (then-another s kind (at + size kind) most) h e
   where
     go : (t : Bool) → eqb (byte s at) (kind-byte kind) ≡ t →
         (how-many s kind (at + size kind) most < most → byte s (at + size kind + how-many s kind (at + size kind) most * size kind) ≡ kind-byte kind → ⊥) →
-        cond t (suc (how-many s kind (at + size kind) most)) 0 < suc most →
-        byte s (at + cond t (suc (how-many s kind (at + size kind) most)) 0 * size kind) ≡ kind-byte kind → ⊥
+        counted t (λ _. how-many s kind (at + size kind) most) < suc most →
+        byte s (at + counted t (λ _. how-many s kind (at + size kind) most) * size kind) ≡ kind-byte kind → ⊥
     go true is later h e =
         let k : ℕ = how-many s kind (at + size kind) most in
         let there : at + suc k * size kind ≡ at + size kind + k * size kind = omega (arith, suc-mul k (size kind)) in
@@ -169,13 +169,13 @@ module _ {s : List ℕ} {m at next count : ℕ} (w : WindowsRead s m at next cou
 
 -- To look for fewer records is to find no more than that of them.
 how-many-of-more : (s : List ℕ) (kind : Kind) (at j more : ℕ) → how-many s kind at j ≡ min j (how-many s kind at (j + more))
-unfolding how-many
+unfolding counted how-many
 how-many-of-more s kind at zero more = omega arith
 how-many-of-more s kind at (suc j) more =
     let next : suc j + more ≡ suc (j + more) = omega arith in
     rw next (go (eqb (byte s at) (kind-byte kind)) _ (how-many-of-more s kind (at + size kind) j more))
   where
-    go : (t : Bool) {few : ℕ} (all : ℕ) → few ≡ min j all → cond t (suc few) 0 ≡ min (suc j) (cond t (suc all) 0)
+    go : (t : Bool) {few : ℕ} (all : ℕ) → few ≡ min j all → counted t (λ _. few) ≡ min (suc j) (counted t (λ _. all))
     go true all same = omega arith
     go false all same = omega arith
 

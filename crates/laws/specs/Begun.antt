@@ -2,17 +2,17 @@
 -- request's own windows are.
 use Prim.Native.Nat.{ℕ, zero, suc, _+_, _≤_, _<_}
 use mathlib.Core.Path.{_≡_, refl, sym, ap, _∙_}
-use mathlib.Core.Bool.{Bool, true, false, cond, not}
+use mathlib.Core.Bool.{Bool, true, false, cond}
 use mathlib.Core.List.{List, [], _∷_}
 use lib.Dec.{eqb}
 use Rattle.rules.specs.Orders as orders
 use Rattle.rules.specs.Orders.{tie, higher, first}
 use Rattle.rules.specs.Workflow.{Interval, Workflow, busy-with}
-use Rattle.rules.specs.Ranks.{cost, lowest-cost, rank-by, rank-within, R, next-task}
+use Rattle.rules.specs.Ranks.{cost, lowest-cost, rank-by, rank-within, R, waits, may-be-next, next-task}
 use Rattle.rules.specs.Start.{arrival, arrived, ready}
 use Rattle.rules.specs.Rows.{Placed, is-placed, taken-up, busy}
 use Rattle.rules.specs.Method.{Method}
-use Rattle.rules.specs.Placing.{ready-for, start-of, finish-of, RB, RCB, question, row-on, place-next, place}
+use Rattle.rules.specs.Placing.{ready-for, start-of, finish-of, RB, RCB, question, row-on, place-task, place-next, place}
 use Rattle.laws.specs.SameStart.{SameStart, same-start-more}
 use Rattle.laws.specs.Method.{ChoosesAmong}
 
@@ -85,25 +85,23 @@ module _ {M : Method} (among : ChoosesAmong M) (W : Workflow) (some : 1 ≤ W .p
         λ t. record { processor = j; start = start-alike i j l t; finish = finish-alike i j l t; cost = cost W i j }
 
     same-task : next-task one (is-placed rows) ≡ next-task other (is-placed rows)
-    unfolding next-task begun
+    unfolding next-task may-be-next waits begun
     same-task =
-        ap (λ r. first (W .tasks) (orders.among (λ i. not (is-placed rows i)) (higher r tie))) (R-begun f clock W ∙ sym (R-begun g clock W))
+        ap (λ r. first (W .tasks) (orders.among (may-be-next W (is-placed rows)) (higher r tie))) (R-begun f clock W ∙ sym (R-begun g clock W))
 
     taken : (i : ℕ) → M (question other rows i) < W .processors
     unfolding question begun
     taken i = among .takes-processor _ some
 
+    task-alike : (i : ℕ) → place-task M one rows i ≡ place-task M other rows i
+    unfolding place-task
+    task-alike i =
+        ap (λ r. record { task = i; row = r } ∷ rows)
+        (ap (row-on one rows i) (choice-alike i) ∙ row-alike i (M (question other rows i)) (taken i))
+
     next-alike : place-next M one rows ≡ place-next M other rows
     unfolding place-next
-    next-alike =
-        ap (λ i. record { task = i; row = row-on one rows i (M (question one rows i)) } ∷ rows) same-task
-        ∙ go (next-task other (is-placed rows))
-      where
-        go : (i : ℕ) → record { task = i; row = row-on one rows i (M (question one rows i)) } ∷ rows
-            ≡ record { task = i; row = row-on other rows i (M (question other rows i)) } ∷ rows
-        go i =
-            ap (λ r. record { task = i; row = r } ∷ rows)
-            (ap (row-on one rows i) (choice-alike i) ∙ row-alike i (M (question other rows i)) (taken i))
+    next-alike = ap (place-task M one rows) same-task ∙ task-alike (next-task other (is-placed rows))
 
   pub place-begun : (k : ℕ) → place M one k ≡ place M other k
   unfolding place
