@@ -48,7 +48,7 @@ fn task_place(v: View, task: usize) -> usize
 pub fn minutes(s: &[u8], v: View, task: usize, processor: usize) -> u64
     requires { ⌜ ViewOf (now s) v ⌝ }
     requires { ⌜ (task < v .tasks) × (processor < v .processors) ⌝ }
-    ensures { λ r. ⌜ (r ≡ workflow-of (now (s .entry)) v .minutes task processor) × (1 ≤ r) × (r ≤ 2_000) ⌝ }
+    ensures { λ r. ⌜ (r ≡ workflow-of (now (s .entry)) v .minutes task processor) × (r ≤ 2_000) ⌝ }
 {
     fields::two_bytes(s, task_place(v, task) + (10 + processor * 5), 3)
 }

@@ -1,4 +1,3 @@
-pub mod Begins
 pub mod Ranked
 pub mod RankBounds
 pub mod RankedMore

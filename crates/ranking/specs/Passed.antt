@@ -12,7 +12,7 @@ use Rattle.good.specs.Ranges.{InRange}
 use Rattle.laws.specs.Bounds.{rank-most}
 use Rattle.laws.specs.Folds.{largest-next, largest-of-none, largest-further}
 use Rattle.laws.specs.Numbers.{below-or-on}
-use Rattle.ranking.specs.Begins.{Begins, from-between}
+use Rattle.successors.specs.Begins.{Begins, from-between}
 use Rattle.laws.specs.Stores.{at}
 use Rattle.ranking.specs.Ranked.{NextRank}
 use Rattle.ranking.specs.RankBounds.{over-edge, transfer-within, rank-at-least-one}

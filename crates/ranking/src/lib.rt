@@ -7,7 +7,7 @@ ghost use Rattle.laws.specs.Bounds.{rank-most};
 ghost use Rattle.reader.specs.Meaning.{ViewOf};
 ghost use Rattle.lookup.specs.Lookup.{workflow-of};
 ghost use Rattle.laws.specs.Turned.{Turned};
-ghost use Rattle.ranking.specs.Begins.{Begins, BeginsFrom};
+ghost use Rattle.successors.specs.Begins.{Begins, BeginsFrom};
 ghost use Rattle.ranking.specs.Ranked.{RankedSoFar, NextRank, HeldUp, AllHeldUp, RankedAs};
 use reader::View;
 
@@ -24,40 +24,6 @@ fn all_minutes(s: &[u8], v: View, task: usize) -> u64
         j += 1;
     }
     minutes
-}
-
-// Where the edges of a task begin, which end at `end`.
-fn begin_of(s: &[u8], v: View, task: usize, end: usize) -> usize
-    requires { ⌜ ViewOf (now s) v ⌝ }
-    requires { ⌜ Begins (workflow-of (now s) v) (task + 1) end ⌝ }
-    ensures { λ r. ⌜ Begins (workflow-of (now (s .entry)) v) task r ⌝ }
-{
-    let mut begin = end;
-    while 0 < begin {
-        let before = begin - 1;
-        if lookup::from(s, v, before) < task {
-            return begin;
-        }
-        begin = before;
-    }
-    begin
-}
-
-// Where the edges of each task begin; past the last task, where all edges end.
-fn begins_all(s: &[u8], v: View) -> [u16; 65]
-    requires { ⌜ ViewOf (now s) v ⌝ }
-    ensures { λ r. ⌜ BeginsFrom (workflow-of (now (s .entry)) v) 0 r ⌝ }
-{
-    let mut begins = [0u16; 65];
-    let mut task = v.tasks;
-    let mut end = v.edges;
-    begins[task] = end as u16;
-    while 0 < task {
-        task -= 1;
-        end = begin_of(s, v, task, end);
-        begins[task] = end as u16;
-    }
-    begins
 }
 
 // The rank of a task once its successors have theirs; 0 while one has not.
@@ -127,16 +93,16 @@ fn rank_pass(s: &[u8], v: View, begins: &[u16; 65], ranks: &mut [u64; 64], left:
 
 // Ranks all tasks in a lent array in which none is ranked yet, each once its successors have theirs. Answers whether all are ranked, which they are without a
 // cycle; with one the array is 0 throughout.
-pub fn rank_all(s: &[u8], v: View, ranks: &mut [u64; 64]) -> bool
+pub fn rank_all(s: &[u8], v: View, begins: &[u16; 65], ranks: &mut [u64; 64]) -> bool
     requires { ⌜ ViewOf (now s) v ⌝ }
+    requires { ⌜ BeginsFrom (workflow-of (now s) v) 0 (now begins) ⌝ }
     requires { ⌜ RankedSoFar (workflow-of (now s) v) (now ranks) (v .tasks) ⌝ }
     ensures { λ r. ⌜ RankedAs (workflow-of (now (s .entry)) v) (now (ranks .exit)) r ⌝ }
 {
-    let begins = begins_all(s, v);
     let mut left = v.tasks;
     while 0 < left {
         let before = left;
-        left = rank_pass(s, v, &begins, ranks, before);
+        left = rank_pass(s, v, begins, ranks, before);
         if left == before {
             *ranks = [0u64; 64];
             return false;

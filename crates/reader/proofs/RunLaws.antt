@@ -9,7 +9,7 @@ use lib.Dec.{eqb}
 use borrow.Author.Tests.{eq-eqb, ne-eqb}
 use Rattle.rules.specs.Fields.{Kind, kind-byte, size, byte}
 use Rattle.rules.specs.Records.{Record, Read, read, stopped}
-use Rattle.rules.specs.Reading.{then, how-many, run-part}
+use Rattle.rules.specs.Reading.{then, counted, how-many, run-part}
 use Rattle.good.specs.Reading.{Steps}
 use Rattle.reader.proofs.Laws.{Reached, none-reached, one-more-reached, refused-there}
 
@@ -40,21 +40,23 @@ module _ {s : List ℕ} {kind : Kind} {part : ℕ → ℕ → Read Record} {at m
 
   module _ (room : k < most) where
     -- What is counted from `next` on, by the record that stands there.
-    counted : how-many s kind at most ≡
-        k + cond (eqb (byte s next) (kind-byte kind)) (suc (how-many s kind (next + size kind) (most - (k + 1)))) 0
+    in-all : how-many s kind at most ≡
+        k + counted (eqb (byte s next) (kind-byte kind)) (λ _. how-many s kind (next + size kind) (most - (k + 1)))
     unfolding how-many
-    counted =
+    in-all =
         let one : most - k ≡ suc (most - (k + 1)) = omega arith in
         sym (rw one at (run .others))
 
     -- A record of another kind, or none.
     pub ended : (byte s next ≡ kind-byte kind → ⊥) → read next k ≡ run-part s kind part at most
-    ended other = all-run (rw (ne-eqb _ _ other) at counted ∙ omega arith)
+    unfolding counted
+    ended other = all-run (rw (ne-eqb _ _ other) at in-all ∙ omega arith)
 
     -- One more of this kind was read, or refused.
     module _ (of-kind : byte s next ≡ kind-byte kind) {here : Read Record} (is : here ≡ part next k) where
       counted-one : how-many s kind at most ≡ k + suc (how-many s kind (next + size kind) (most - (k + 1)))
-      counted-one = rw (eq-eqb _ _ of-kind) at counted
+      unfolding counted
+      counted-one = rw (eq-eqb _ _ of-kind) at in-all
 
       pub one-more-run : Steps part (size kind) → {after : ℕ} {r : Record} → here ≡ read after r → Run s kind part at most (k + 1) after
       one-more-run steps {after} {r} e =

@@ -204,7 +204,7 @@ pub fn read_task(s: &[u8], c: Cursor, due: usize) -> RecordAnswer
     }
 }
 
-// `W` of the task and the processor that are due: minutes 1..2,000.
+// `W` of the task and the processor that are due: minutes 0..2,000.
 pub fn read_minutes(s: &[u8], c: Cursor, due_task: usize, due_processor: usize) -> RecordAnswer
     ensures { λ r. ⌜ meant r ≡ minutes-at (now (s .entry)) (c .at) «due_task» «due_processor» ⌝ }
 {
@@ -222,7 +222,7 @@ pub fn read_minutes(s: &[u8], c: Cursor, due_task: usize, due_processor: usize) 
     if processor != due_processor {
         return RecordAnswer::Refused(3, at);
     }
-    if fields::outside(1, minutes, 2_000) {
+    if fields::outside(0, minutes, 2_000) {
         return RecordAnswer::Refused(4, at);
     }
     RecordAnswer::Read(

@@ -49,7 +49,7 @@ mul-larger-3 c =
     let start = c .before .before .before .before .before .before .before in
     let range = view-in-range (start .args .s .now) (start .args .v) (start .pre .0) in
     let price = filled-at-most (start .pre .1 .0 .prices-are) 100 (range .price-in) (c .before .before .before .before .before .loop .j) in
-    omega (arith, mul-le-mul (c .before .minutes .ensures .2) price)
+    omega (arith, mul-le-mul (c .before .minutes .ensures .1) price)
 
 larger-requires : tie.Need-larger-requires Inv-loop μ-loop
 larger-requires c κs = search needs

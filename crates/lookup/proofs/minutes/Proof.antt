@@ -58,7 +58,7 @@ returns c =
     let read = rw (c .before .task-place .ensures) at (c .two-bytes .ensures .0) in
     let is = read ∙ sym (minutes-there (a .s .now) (meant-view (a .v)) (a .task) (a .processor) (pre .1 .0) (pre .1 .1)) in
     let range = view-in-range (a .s .now) (a .v) (pre .0) in
-    (is, rw is (range .minutes-least (a .task) (a .processor) (pre .1 .0) (pre .1 .1)), rw is (range .minutes-most (a .task) (a .processor)))
+    (is, rw is (range .minutes-most (a .task) (a .processor)))
 
 pub minutes-spec : {M : Type 1} → statement M
 minutes-spec =

@@ -6,10 +6,10 @@ use Rattle.rules.specs.Workflow.{workflow}
 use Rattle.good.specs.Ranges.{InRange}
 use Rattle.lookup.specs.Lookup.{workflow-of}
 use Rattle.lookup.specs.Views.{view-in-range}
-use Rattle.ranking.specs.Begins.{Begins, BeginsFrom, begins-at-end, begins-from}
+use Rattle.successors.specs.Begins.{Begins, BeginsFrom, begins-at-end, begins-from}
 use native.Mathlib.Omega.{arith}
-use Rattle.ranking.proofs.begins_all.Statement.{statement}
-use Rattle.ranking.proofs.begins_all.Tie as tie
+use Rattle.successors.proofs.begins_all.Statement.{statement}
+use Rattle.successors.proofs.begins_all.Tie as tie
 
 abbrev Inv-loop : tie.InvT-loop
 Inv-loop s v begins₀ task₀ end₀ begins task end = (task ≤ v .tasks) × Begins (workflow-of s v) task end × BeginsFrom (workflow-of s v) task begins

@@ -4,10 +4,10 @@ use Prim.Native.Nat.{ℕ, _-_, _≤_, _<_}
 use Rattle.rules.specs.Workflow.{workflow}
 use Rattle.lookup.specs.Lookup.{workflow-of}
 use Rattle.lookup.specs.Views.{view-in-range}
-use Rattle.ranking.specs.Begins.{begins-after, begins-at-start, onward-from}
+use Rattle.successors.specs.Begins.{begins-after, begins-at-start, onward-from}
 use native.Mathlib.Omega.{arith}
-use Rattle.ranking.proofs.begin_of.Statement.{statement}
-use Rattle.ranking.proofs.begin_of.Tie as tie
+use Rattle.successors.proofs.begin_of.Statement.{statement}
+use Rattle.successors.proofs.begin_of.Tie as tie
 
 abbrev Inv-loop : tie.InvT-loop
 Inv-loop s v task end begin₀ begin =

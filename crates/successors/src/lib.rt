@@ -1,0 +1,41 @@
+// The edges out of each task, which stand one after the other in a request: where they begin, and how many of the edges into each task come from one that is
+// not placed yet.
+ghost use Prim.Native.Nat.{_+_};
+ghost use Rattle.reader.specs.Meaning.{ViewOf};
+ghost use Rattle.lookup.specs.Lookup.{workflow-of};
+ghost use Rattle.successors.specs.Begins.{Begins, BeginsFrom};
+use reader::View;
+
+// Where the edges of a task begin, which end at `end`.
+fn begin_of(s: &[u8], v: View, task: usize, end: usize) -> usize
+    requires { ⌜ ViewOf (now s) v ⌝ }
+    requires { ⌜ Begins (workflow-of (now s) v) (task + 1) end ⌝ }
+    ensures { λ r. ⌜ Begins (workflow-of (now (s .entry)) v) task r ⌝ }
+{
+    let mut begin = end;
+    while 0 < begin {
+        let before = begin - 1;
+        if lookup::from(s, v, before) < task {
+            return begin;
+        }
+        begin = before;
+    }
+    begin
+}
+
+// Where the edges of each task begin; past the last task, where all edges end.
+pub fn begins_all(s: &[u8], v: View) -> [u16; 65]
+    requires { ⌜ ViewOf (now s) v ⌝ }
+    ensures { λ r. ⌜ BeginsFrom (workflow-of (now (s .entry)) v) 0 r ⌝ }
+{
+    let mut begins = [0u16; 65];
+    let mut task = v.tasks;
+    let mut end = v.edges;
+    begins[task] = end as u16;
+    while 0 < task {
+        task -= 1;
+        end = begin_of(s, v, task, end);
+        begins[task] = end as u16;
+    }
+    begins
+}
