@@ -21,6 +21,7 @@ pub mod WhatIsDue
 pub mod DueSettled
 pub mod PlanBehind
 pub mod PlacingOrder
+pub mod WithoutZeros
 pub mod RefusalNine
 pub mod HEFTRank
 pub mod HEFTSettled

@@ -22,6 +22,9 @@ overlap-has-common u v o = record { in-one = omega arith; in-other = omega arith
 pub common-overlaps : (u v : Interval) {t : ℕ} → Common u v t → Overlap u v
 common-overlaps u v both = omega (arith, both .in-one, both .in-other)
 
+pub overlap-turned : (u v : Interval) → Overlap u v → Overlap v u
+overlap-turned u v o = omega arith
+
 -- Of two that have minutes and do not overlap, one ends before the other begins.
 pub one-ends-before :
     (u v : Interval) → u .begin < u .end → v .begin < v .end → (Overlap u v → ⊥) → (v .end ≤ u .begin) ⊎ (u .end ≤ v .begin)

@@ -10,7 +10,7 @@ use Rattle.rules.specs.Workflow.{Workflow}
 use Rattle.rules.specs.Cycle.{Leads, edge}
 use Rattle.rules.specs.Ranks.{waits, may-be-next, next-task}
 use Rattle.laws.specs.Tests.{and-both, false-unless-true, true-unless-false}
-use Rattle.laws.specs.Any.{any-attained, any-holds, any-fails}
+use Rattle.laws.specs.Any.{any-attained, any-holds}
 use Rattle.laws.specs.First.{first-below, first-passes}
 use Rattle.laws.specs.Leads.{leads-on}
 use Rattle.laws.specs.Onward.{some-after-itself}
@@ -56,6 +56,12 @@ module _ (W : Workflow) (placed : ℕ → Bool) where
       let (e, l, to, free) = waits-told i h in
       false≢true (sym free ∙ may .predecessors-placed e l to))))
 
+  -- A task that is not placed and is not one of those waits for a predecessor.
+  pub held-by-one :
+      (i : ℕ) → placed i ≡ false → may-be-next W placed i ≡ false → (e : ℕ) × (e < W .edges) × (W .to e ≡ i) × (placed (W .from e) ≡ false)
+  unfolding may-be-next
+  held-by-one i free none = waits-told i (true-unless-false (waits W placed i) (λ h. false≢true (sym none ∙ rw (free, h) refl)))
+
   module _ (begin : EdgesBegin W) (acyclic : (i : ℕ) → Leads W i i → ⊥) where
     -- One of a kind that goes back along every edge: going back from one that is not placed to a predecessor that is not, one comes to an end.
     module _ (kind : ℕ → Bool) (back : (e : ℕ) → e < W .edges → kind (W .to e) ≡ true → kind (W .from e) ≡ true) where
@@ -66,12 +72,10 @@ module _ (W : Workflow) (placed : ℕ → Bool) where
       test i = kind i && may-be-next W placed i
 
       goes-on : any (W .tasks) test ≡ false → (i : ℕ) → i < W .tasks → Left i → (k : ℕ) × (k < W .tasks) × Leads W k i × Left k
-      unfolding may-be-next
       goes-on none i l (free, is) =
-          let held : waits W placed i ≡ true =
-          true-unless-false (waits W placed i) (λ h.
-          false≢true (sym none ∙ any-holds (W .tasks) test i l (rw (is, free, h) refl))) in
-          let (e, b, to, left) = waits-told i held in
+          let held : may-be-next W placed i ≡ false =
+          false-unless-true (may-be-next W placed i) (λ may. false≢true (sym none ∙ any-holds (W .tasks) test i l (ap₂ _&&_ is may))) in
+          let (e, b, to, left) = held-by-one i free held in
           (W .from e, begin e b, subst (Leads W (W .from e)) to (edge e b), (left, back e b (rw to is)))
 
       pub some-may-be-next : (i : ℕ) → i < W .tasks → placed i ≡ false → kind i ≡ true → (k : ℕ) × (k < W .tasks) × (kind k ≡ true) × MayBeNext W placed k

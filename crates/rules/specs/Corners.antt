@@ -120,10 +120,10 @@ cheaper-down : List ℕ → List ℕ
 cheaper-down windows = cheaper-of (P-record 0 2 ++ P-record 1 1 ++ windows)
 
 -- A task on one processor at price 1; tasks there, and their edges.
-alone : ℕ → String → ℕ → List ℕ
+unfoldable pub alone : ℕ → String → ℕ → List ℕ
 alone task label minutes = T-record task label ++ W-record task 0 minutes
 
-chain : ℕ → List ℕ → List ℕ
+unfoldable pub chain : ℕ → List ℕ → List ℕ
 chain tasks rest = H-record tasks 1 50 ++ P-record 0 1 ++ rest ++ bytes "Z"
 
 -- All minutes are 0.
@@ -135,7 +135,7 @@ marker-between : List ℕ
 marker-between = chain 3 (alone 0 "one     " 5 ++ alone 1 "two     " 5 ++ alone 2 "marker  " 0 ++ E-record 2 0 0)
 
 -- Marker 0 waits for marker 1, which waits for task 2; the R of both is 0.
-marker-before : List ℕ
+unfoldable pub marker-before : List ℕ
 marker-before = chain 3 (alone 0 "last    " 0 ++ alone 1 "marker  " 0 ++ alone 2 "first   " 5 ++ E-record 1 0 0 ++ E-record 2 1 0)
 
 -- Two markers and a task wait for task 0.

@@ -107,7 +107,7 @@ module _ (s : List ℕ) (at : ℕ) where
       (λ number.
       goes-check (eqb-tells (W-processor s at) j) 2
       (λ processor.
-      goes-check (within-tells 1 (W-minutes s at) 2_000) 3
+      goes-check (within-tells 0 (W-minutes s at) 2_000) 3
       (λ in-range. goes-checked (past (record { whole = whole; room = tt; numbers = (number, processor); in-range = in-range; label = tt })))
       (λ not. stop s at (minutes i j) a (out-of-range (a .is-due) whole tt (number, processor) not)))
       (λ not. other (λ numbers. not (numbers .1))))

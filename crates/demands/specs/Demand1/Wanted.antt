@@ -73,14 +73,14 @@ abbrev pub IsFifth : List ℕ → (at before : ℕ) → Type 0
 IsFifth s at before = (4 ≤ before) × (M-processor s (at - 4 * size M) ≡ M-processor s at)
 
 -- "Ranges: n 1..64, m 1..16, budget 0..20,000,000, deadline 1..200,000, price 0..100, minimum 0..10,000, a window's processor below m, its begin below its
--- end, its end at most 20,000, at most four windows of a processor, minutes 1..2,000, transfer 0..1,000, edge ends below n and unequal".
+-- end, its end at most 20,000, at most four windows of a processor, minutes 0..2,000, transfer 0..1,000, edge ends below n and unequal".
 abbrev pub FieldsInRange : List ℕ → ℕ → Wanted → Type 0
 FieldsInRange s at header = Between 1 (H-tasks s at) 64 × Between 1 (H-processors s at) 16 × Between 0 (H-budget s at) 20_000_000
 FieldsInRange s at deadline = Between 1 (D-deadline s at) 200_000
 FieldsInRange s at (processor as-P j) = Between 0 (P-price s at) 100
 FieldsInRange s at (processor as-Q j) = Between 0 (P-price s at) 100 × Between 0 (Q-minimum s at) 10_000
 FieldsInRange s at (window before) = GoodWindow s (H-processors s 0) at × (IsFifth s at before → ⊥)
-FieldsInRange s at (minutes i j) = Between 1 (W-minutes s at) 2_000
+FieldsInRange s at (minutes i j) = Between 0 (W-minutes s at) 2_000
 FieldsInRange s at (edge before) = GoodEdge s (H-tasks s 0) at
 FieldsInRange s at (task i) = Unit {0}
 FieldsInRange s at end = Unit {0}

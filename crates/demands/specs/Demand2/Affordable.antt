@@ -8,15 +8,17 @@ use native.Mathlib.Nat.{le-refl}
 use native.Mathlib.Omega.{arith}
 use lib.ListN.{length}
 use Rattle.rules.specs.Workflow.{Workflow}
+use Rattle.rules.specs.Cycle.{Leads}
 use Rattle.rules.specs.Ranks.{cost, lowest-cost, cheapest-total, next-task}
 use Rattle.rules.specs.Rows.{Placed, is-placed, spent}
 use Rattle.rules.specs.Method.{Question, Method, best, HBCS}
 use Rattle.rules.specs.Placing.{RB, RCB, question, row-on, place}
 use Rattle.laws.specs.Unmarked.{sum-unmarked, sum-unmarked-less}
+use Rattle.laws.specs.NextTask.{EdgesBegin}
 use Rattle.demands.specs.Ground.MethodLaws.{ChoosesProcessors, LeavesEnough, CheapestLeavesEnough, KeepsWithin}
 use Rattle.demands.specs.Ground.Best.{MayBeTaken, may-of-test}
 use Rattle.demands.specs.Demand2.HBCSChoice.{cheapest-may-be-taken, HBCS-chooses-processors, HBCS-may-be-taken, HBCS-keeps-within}
-use Rattle.demands.specs.Demand2.Built.{Built, at-first, one-more, next-task-free, place-built}
+use Rattle.demands.specs.Demand2.Built.{Built, at-first, one-more, next-may, place-built}
 
 -- No processor has a lower cost for task i than j has.
 pub record CheapestFor (W : Workflow) (i j : ℕ) : Type 0 where
@@ -46,25 +48,25 @@ module _ (M : Method) (W : Workflow) (keeps : KeepsWithin M) (some : 1 ≤ W .pr
   stays-affordable (one-more {before = before} {i = i} built next) =
       let fits = stays-affordable built in
       let q = question W before i in
-      let kept = subst (LeavesEnough q) (next .chosen) (keeps q some (enough-left W before fits i (next .task) (next .free))) in
-      omega (arith, kept, sum-unmarked-less (is-placed before) (lowest-cost W) (W .tasks) i (next .task) (next .free))
+      let kept = subst (LeavesEnough q) (next .chosen) (keeps q some (enough-left W before fits i (next .task) (next .may .left))) in
+      omega (arith, kept, sum-unmarked-less (is-placed before) (lowest-cost W) (W .tasks) i (next .task) (next .may .left))
 
   -- All tasks are placed.
-  pub places-all : ChoosesProcessors M → AllPlaced M W (place M W (W .tasks))
-  places-all chooses =
-      let (built, count) = place-built M W chooses some (W .tasks) (le-refl (W .tasks)) in
+  pub places-all : EdgesBegin W → ((i : ℕ) → Leads W i i → ⊥) → ChoosesProcessors M → AllPlaced M W (place M W (W .tasks))
+  places-all begin acyclic chooses =
+      let (built, count) = place-built M W begin acyclic chooses some (W .tasks) (le-refl (W .tasks)) in
       record { built = built; count = count; fits = stays-affordable built }
 
 module _ (W : Workflow) (some : 1 ≤ W .processors) (within : cheapest-total W ≤ W .budget) where
-  pub HBCS-places-all : AllPlaced HBCS W (place HBCS W (W .tasks))
-  HBCS-places-all = places-all HBCS W HBCS-keeps-within some within HBCS-chooses-processors
+  pub HBCS-places-all : EdgesBegin W → ((i : ℕ) → Leads W i i → ⊥) → AllPlaced HBCS W (place HBCS W (W .tasks))
+  HBCS-places-all begin acyclic = places-all HBCS W HBCS-keeps-within some within begin acyclic HBCS-chooses-processors
 
   pub HBCS-enough-left :
       {rows : List Placed} → Built HBCS W rows → (i : ℕ) → i < W .tasks → is-placed rows i ≡ false → CheapestLeavesEnough (question W rows i)
   HBCS-enough-left built = enough-left W _ (stays-affordable HBCS W HBCS-keeps-within some within built)
 
   -- At every step of the placing: k tasks are placed, and the next is in hand.
-  module _ (k : ℕ) (more : k < W .tasks) where
+  module _ (begin : EdgesBegin W) (acyclic : (i : ℕ) → Leads W i i → ⊥) (k : ℕ) (more : k < W .tasks) where
     abbrev in-hand : ℕ
     in-hand = next-task W (is-placed (place HBCS W k))
 
@@ -73,9 +75,9 @@ module _ (W : Workflow) (some : 1 ≤ W .processors) (within : cheapest-total W 
 
     enough : CheapestLeavesEnough asked
     enough =
-        let (built, count) = place-built HBCS W HBCS-chooses-processors some k (omega arith) in
-        let (task, free) = next-task-free HBCS W (place HBCS W k) built (omega arith) in
-        HBCS-enough-left built in-hand task free
+        let (built, count) = place-built HBCS W begin acyclic HBCS-chooses-processors some k (omega arith) in
+        let (task, may) = next-may HBCS W begin acyclic (place HBCS W k) built (omega arith) in
+        HBCS-enough-left built in-hand task (may .left)
 
     -- The cheapest processor can be taken, and each where there are several;
     pub cheapest-can-always-be-taken : (j : ℕ) → CheapestFor W in-hand j → MayBeTaken asked (best asked) j

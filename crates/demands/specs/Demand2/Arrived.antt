@@ -1,13 +1,12 @@
 -- No task starts before its inputs arrived: its predecessors are placed when it is, and their rows stay as they were.
 use Prim.Native.Nat.{ℕ, _≤_, _<_}
-use mathlib.Core.Path.{_≡_, sym, _∙_}
+use mathlib.Core.Path.{_≡_}
 use mathlib.Core.Bool.{true, false, cond}
 use mathlib.Core.List.{List, _∷_}
 use native.Mathlib.Omega.{arith}
 use lib.Dec.{eqb}
 use borrow.Author.Tests.{eq-eqb}
 use Rattle.rules.specs.Workflow.{Workflow}
-use Rattle.rules.specs.Cycle.{Leads}
 use Rattle.rules.specs.Start.{arrival, arrived, ready}
 use Rattle.rules.specs.Rows.{Placed, row-of, is-placed, busy}
 use Rattle.rules.specs.Method.{Method}
@@ -15,8 +14,6 @@ use Rattle.rules.specs.Placing.{ready-for, start-of, row-on}
 use Rattle.laws.specs.Folds.{at-most-largest}
 use Rattle.laws.specs.StartLaws.{start-not-before-ready}
 use Rattle.demands.specs.Demand2.Lookup.{none-placed, old-placed, old-row, each-row}
-use Rattle.demands.specs.Ground.GoodWorkflow.{GoodWorkflow}
-use Rattle.demands.specs.Demand2.Order.{predecessors-placed}
 use Rattle.demands.specs.Demand2.Built.{placed-on, Built, at-first, one-more}
 
 -- When the data of edge e is on processor j, by these rows.
@@ -36,7 +33,7 @@ arrives-still :
 unfolding arrival
 arrives-still W p before free j e placed = rw (old-row p before free (W .from e) placed)
 
-module _ (M : Method) (W : Workflow) (good : GoodWorkflow W) (acyclic : (i : ℕ) → Leads W i i → ⊥) where
+module _ (M : Method) (W : Workflow) where
   pub rows-arrived :
       {rows : List Placed} → Built M W rows → (i : ℕ) → is-placed rows i ≡ true → (e : ℕ) → e < W .edges → W .to e ≡ i
       → (is-placed rows (W .from e) ≡ true) × (arrives W rows (row-of rows i .processor) e ≤ row-of rows i .start)
@@ -49,9 +46,9 @@ module _ (M : Method) (W : Workflow) (good : GoodWorkflow W) (acyclic : (i : ℕ
       (e : ℕ) → e < W .edges → W .to e ≡ i
       → (is-placed (p ∷ before) (W .from e) ≡ true) × (arrives W (p ∷ before) (r .processor) e ≤ r .start))
       (λ e l to-n.
-      let placed = predecessors-placed W good acyclic (is-placed before) e l (to-n ∙ sym (next .is-next)) in
+      let placed = next .may .predecessors-placed e l to-n in
       let arrived = start-not-before-arrival W before n j e l to-n in
-      (old-placed p before (W .from e) placed, rw (arrives-still W p before (next .free) j e placed) arrived))
+      (old-placed p before (W .from e) placed, rw (arrives-still W p before (next .may .left) j e placed) arrived))
       (λ i h e l to-i.
       let (placed, arrived) = rows-arrived built i h e l to-i in
-      (old-placed p before (W .from e) placed, rw (arrives-still W p before (next .free) (row-of before i .processor) e placed) arrived))
+      (old-placed p before (W .from e) placed, rw (arrives-still W p before (next .may .left) (row-of before i .processor) e placed) arrived))

@@ -11,7 +11,7 @@ use Rattle.rules.specs.Ranks.{cost, cheapest-total}
 use Rattle.rules.specs.Rows.{Placed, row-of, spent, length-of}
 use Rattle.rules.specs.Method.{HBCS}
 use Rattle.rules.specs.Placing.{place}
-use Rattle.rules.specs.Answer.{Outcome, plan, refuse, too-late, placed-outcome, outcome-by}
+use Rattle.rules.specs.Answer.{Outcome, plan, refuse, too-late, placed-outcome, outcome-of, outcome-by}
 use Rattle.laws.specs.Tests.{false-unless-true}
 use Rattle.laws.specs.Folds.{sum-same}
 use Rattle.laws.specs.Cycles.{cyclic-iff, lowest-in-cycle-lowest}
@@ -33,9 +33,9 @@ module _ (W : Workflow) (good : GoodWorkflow W) where
       let costs : costs-in-all W on ≡ spent rows = sum-same (W .tasks) _ _ (λ i l. sym (p .rows-true i l .cost)) ∙ sym (p .cost-sum) in
       omega (arith, cheapest-at-most-any W on (λ i l. p .rows-true i l .processor), p .left-over)
 
-  place-settled : (rows : List Placed) → MethodsPlan W rows → place HBCS W (W .tasks) ≡ rows
-  place-settled rows p =
-      let all = HBCS-places-all W (good .processors) (plan-within rows p) in
+  place-settled : ((i : ℕ) → Leads W i i → ⊥) → (rows : List Placed) → MethodsPlan W rows → place HBCS W (W .tasks) ≡ rows
+  place-settled acyclic rows p =
+      let all = HBCS-places-all W (good .processors) (plan-within rows p) (good .from) acyclic in
       let steps = steps-as-the-method W (good .processors) (plan-within rows p) (all .built) in
       steps-settled W (place HBCS W (W .tasks)) rows steps (p .steps) (all .count ∙ sym (p .none-twice))
 
@@ -43,18 +43,18 @@ module _ (W : Workflow) (good : GoodWorkflow W) where
     outcome-planned :
         (rows : List Placed) → Placeable W lent → MethodsPlan W rows → (late : Bool) → too-late (W .deadline) (length-of rows) ≡ late
         → outcome-by HBCS W lent ≡ refuse late 11 (length-of rows) (plan W rows)
-    unfolding outcome-by placed-outcome refuse
+    unfolding outcome-by outcome-of placed-outcome refuse
     outcome-planned rows placeable p late e =
         rw (
           le-ltb lent (W .tasks) (placeable .enough-rows),
           acyclic-settled (placeable .acyclic),
           le-ltb (W .budget) (cheapest-total W) (plan-within rows p),
-          place-settled rows p,
+          place-settled (placeable .acyclic) rows p,
           e,
         )
 
     pub due-is-outcome : {outcome : Outcome} → Due W lent outcome → outcome ≡ outcome-by HBCS W lent
-    unfolding refuse outcome-by
+    unfolding refuse outcome-by outcome-of
     due-is-outcome (seven few) = rw (lt-ltb lent (W .tasks) few)
     due-is-outcome (eight {i = i} enough lowest) =
         let cycle : cyclic W ≡ true = cyclic-iff W (good .to) .1 (i, lowest .task, lowest .leads-back) in

@@ -1,20 +1,23 @@
 -- "This is m times HEFT's rank, so nothing is rounded": R over m satisfies the equation of HEFT's rank as fractions, with the mean of the minutes as
 -- their sum over m.
 use Prim.Native.Nat.{ℕ, _+_, _*_, _≤_, _<_}
-use mathlib.Core.Path.{_≡_, refl, sym, ap}
-use mathlib.Core.Bool.{Bool, true, false, cond}
+use mathlib.Core.Path.{_≡_, refl, sym, ap, _∙_}
+use mathlib.Core.Bool.{Bool, true, false, cond, false≢true}
 use mathlib.Core.Logic.{_⊎_, inl, inr, ⊎-elim}
-use native.Mathlib.Nat.{mul-le-mul-right, eq-zero-or-pos}
+use native.Mathlib.Nat.{mul-le-mul-right}
 use native.Mathlib.Omega.{arith}
 use lib.Dec.{eqb}
 use borrow.Author.Tests.{eqb-true, eq-eqb}
-use Rattle.rules.specs.Folds.{sum, largest}
+use Rattle.rules.specs.Folds.{sum, largest, any}
 use Rattle.rules.specs.Workflow.{Workflow}
 use Rattle.rules.specs.Cycle.{Leads}
 use Rattle.rules.specs.Ranks.{rank-by, R}
-use Rattle.laws.specs.Folds.{at-most-sum, at-most-largest, largest-attained}
+use Rattle.laws.specs.Tests.{false-unless-true}
+use Rattle.laws.specs.Any.{any-attained, any-holds}
+use Rattle.laws.specs.Folds.{at-most-largest, largest-of-none, largest-attained}
 use Rattle.laws.specs.Ranks.{R-equation}
 use Rattle.demands.specs.Ground.GoodWorkflow.{GoodWorkflow}
+use Rattle.demands.specs.Demand2.Order.{R-at-least}
 use Rattle.demands.specs.Demand2.Worthiness.{Fraction, plus, AtMost}
 
 abbrev pub Same : Fraction → Fraction → Type 0
@@ -49,49 +52,48 @@ module _ (W : Workflow) where
     unfolding rank-by
     equation = R-equation W (good .to) acyclic
 
-    R-positive : (i : ℕ) → i < W .tasks → 1 ≤ R W i
-    R-positive i l =
-        omega (arith, equation i l, at-most-sum m (W .minutes i) 0 (good .processors), good .minutes i 0 l (good .processors))
-
     onward-of : (e : ℕ) → onward (W .from e) e ≡ m * W .transfer e + R W (W .to e)
     onward-of e = rw (eq-eqb (W .from e) (W .from e) refl)
-
-    pub R-at-least : (e : ℕ) → e < W .edges → sum m (W .minutes (W .from e)) + (m * W .transfer e + R W (W .to e)) ≤ R W (W .from e)
-    R-at-least e l = omega (arith, equation (W .from e) (good .from e l), at-most-largest (W .edges) (onward (W .from e)) e l, onward-of e)
 
     pub R-attained :
         (i : ℕ) → i < W .tasks
         → Through i (R W i ≡ sum m (W .minutes i)) (λ e. R W i ≡ sum m (W .minutes (W .from e)) + (m * W .transfer e + R W (W .to e)))
-    R-attained i l = go (eq-zero-or-pos (W .edges))
+    R-attained i l = go (any (W .edges) (λ e. eqb (W .from e) i)) refl
       where
         Attained : Type 0
         Attained = Through i (R W i ≡ sum m (W .minutes i)) (λ e. R W i ≡ sum m (W .minutes (W .from e)) + (m * W .transfer e + R W (W .to e)))
 
-        alone : largest (W .edges) (onward i) ≡ 0 → Attained
-        alone none = inl (
-          λ e k from-i.
-              let at-most = at-most-largest (W .edges) (onward i) e k in
-              omega (arith, rw (eq-eqb (W .from e) i from-i) at at-most, R-positive (W .to e) (good .to e k)),
-          omega (arith, equation i l),
-        )
+        -- Along an edge of i that has the largest.
+        by-edge : (e : ℕ) → e < W .edges → W .from e ≡ i → onward i e ≡ largest (W .edges) (onward i) → Attained
+        by-edge e k from-i largest-is =
+            inr (e, k, from-i, rw from-i (omega (arith, equation i l, rw (eq-eqb (W .from e) i from-i) at largest-is)))
 
-        by-edge : (e : ℕ) → e < W .edges → (t : Bool) → eqb (W .from e) i ≡ t → onward i e ≡ largest (W .edges) (onward i) → Attained
-        by-edge e k true from-i largest-is =
-            let same = eqb-true (W .from e) i from-i in
-            inr (e, k, same, rw same (omega (arith, equation i l, rw from-i at largest-is)))
-        by-edge e k false other largest-is = alone (sym (rw other at largest-is))
-
-        go : (W .edges ≡ 0) ⊎ (0 < W .edges) → Attained
-        go (inl none) = alone (rw none (unfold largest in refl))
-        go (inr some) =
-            let (e, k, largest-is) = largest-attained (W .edges) (onward i) some in
-            by-edge e k (eqb (W .from e) i) refl largest-is
+        -- The largest is that of an edge of i, or 0: then it is that of every edge of i.
+        go : (t : Bool) → any (W .edges) (λ e. eqb (W .from e) i) ≡ t → Attained
+        go false none =
+            let of-others : (e : ℕ) → e < W .edges → eqb (W .from e) i ≡ false = λ e k.
+            false-unless-true (eqb (W .from e) i) (λ h. false≢true (sym none ∙ any-holds (W .edges) (λ e. eqb (W .from e) i) e k h)) in
+            inl (
+              λ e k from-i. false≢true (sym (of-others e k) ∙ eq-eqb (W .from e) i from-i),
+              omega (arith, equation i l, largest-of-none (W .edges) (onward i) (λ e k. rw (of-others e k))),
+            )
+        go true some =
+            let (e, k, from-i) = any-attained (W .edges) (λ e. eqb (W .from e) i) some in
+            let (e′, k′, largest-is) = largest-attained (W .edges) (onward i) (omega arith) in
+            either e k (eqb-true (W .from e) i from-i) e′ k′ largest-is (eqb (W .from e′) i) refl
+          where
+            either :
+                (e : ℕ) → e < W .edges → W .from e ≡ i → (e′ : ℕ) → e′ < W .edges → onward i e′ ≡ largest (W .edges) (onward i)
+                → (t : Bool) → eqb (W .from e′) i ≡ t → Attained
+            either e k from-i e′ k′ largest-is true from-i′ = by-edge e′ k′ (eqb-true (W .from e′) i from-i′) largest-is
+            either e k from-i e′ k′ largest-is false other =
+                by-edge e k from-i (omega (arith, rw other at largest-is, at-most-largest (W .edges) (onward i) e k))
 
     -- R over m is HEFT's rank.
     pub R-is-m-times-HEFTs : HEFTRank (λ i. record { over = R W i; under = m })
     R-is-m-times-HEFTs =
         record {
-          at-least = λ e l. omega (arith, mul-le-mul-right (m * m) (R-at-least e l));
+          at-least = λ e l. omega (arith, mul-le-mul-right (m * m) (R-at-least W good acyclic e l));
           attained = λ i l.
               ⊎-elim (λ w. inl (w .0, ap (λ x. x * m) (w .1)))
               (λ w. inr (w .0, w .1, w .2, omega (arith, ap (λ x. x * (m * m)) (w .3)))) (R-attained i l);

@@ -1,4 +1,4 @@
--- HEFT's rank is settled: whatever fractions satisfy its equation are R over m. By induction on R, which falls along every edge.
+-- HEFT's rank is settled: whatever fractions satisfy its equation are R over m. From the successors of each task to the task.
 use Prim.Native.Nat.{ℕ, zero, suc, _+_, _*_, _≤_, _<_}
 use mathlib.Core.Path.{_≡_, sym, ap, _∙_, subst}
 use mathlib.Core.Logic.{inl, inr}
@@ -8,10 +8,11 @@ use Rattle.rules.specs.Folds.{sum}
 use Rattle.rules.specs.Workflow.{Workflow}
 use Rattle.rules.specs.Cycle.{Leads}
 use Rattle.rules.specs.Ranks.{R}
+use Rattle.laws.specs.Onward.{holds-at-last}
 use Rattle.demands.specs.Ground.GoodWorkflow.{GoodWorkflow}
-use Rattle.demands.specs.Demand2.Order.{from-ranks-higher}
+use Rattle.demands.specs.Demand2.Order.{R-at-least}
 use Rattle.demands.specs.Demand2.Worthiness.{Fraction, plus, AtMost}
-use Rattle.demands.specs.Demand2.HEFTRank.{Same, mean, along, Through, HEFTRank, R-at-least, R-attained}
+use Rattle.demands.specs.Demand2.HEFTRank.{Same, mean, along, Through, HEFTRank, R-attained}
 
 -- The fraction p / u against the mean s / m, the transfer c and the next rank n / v, which is r / m.
 module _ (m s c p u n v r : ℕ) (some : 1 ≤ v) (next : n * m ≡ r * v) where
@@ -52,11 +53,8 @@ module _ (W : Workflow) (good : GoodWorkflow W) (acyclic : (i : ℕ) → Leads W
         let here = at-least-along m _ (W .transfer e) (rank (W .from e) .over) u _ _ (R W (W .to e)) some next (heft .at-least e l) in
         omega (arith, here, ap (λ x. x * u) is)
 
-  is-R : (most i : ℕ) → R W i < most → i < W .tasks → IsR i
-  is-R zero i below l = absurd (omega arith)
-  is-R (suc most) i below l =
-      go (λ e k from-i. is-R most (W .to e) (omega (arith, from-ranks-higher W good acyclic e k, ap (R W) from-i)) (good .to e k))
-      (heft .attained i l) (R-attained W good acyclic i l)
+  is-R : (i : ℕ) → i < W .tasks → ((e : ℕ) → e < W .edges → W .from e ≡ i → IsR (W .to e)) → IsR i
+  is-R i l onward = go onward (heft .attained i l) (R-attained W good acyclic i l)
     where
       go :
           ((e : ℕ) → e < W .edges → W .from e ≡ i → IsR (W .to e))
@@ -73,4 +71,4 @@ module _ (W : Workflow) (good : GoodWorkflow W) (acyclic : (i : ℕ) → Leads W
 
   -- HEFT's rank is R over m.
   pub HEFTs-rank-is-R-over-m : (i : ℕ) → i < W .tasks → Same (rank i) (record { over = R W i; under = W .processors })
-  HEFTs-rank-is-R-over-m i = is-R (suc (R W i)) i (omega arith)
+  HEFTs-rank-is-R-over-m = holds-at-last W (good .to) acyclic (λ n. IsR) (λ n. is-R)

@@ -4,7 +4,7 @@ use mathlib.Core.Path.{_≡_, refl, sym, ap, _∙_, subst}
 use mathlib.Core.Bool.{Bool, true, false, cond, _||_, true≢false, false≢true}
 use mathlib.Core.List.{List, [], _∷_}
 use lib.Dec.{eqb}
-use borrow.Author.Tests.{eqb-true, ne-eqb}
+use borrow.Author.Tests.{eqb-true, eq-eqb, ne-eqb}
 use Rattle.rules.specs.Rows.{Row, Placed, no-row, row-of, is-placed}
 use Rattle.laws.specs.Tests.{or-right, or-neither}
 
@@ -20,6 +20,10 @@ row-of-unplaced (p ∷ rows) i free =
     rw (none .0) (row-of-unplaced rows i (none .1))
 
 module _ (p : Placed) (before : List Placed) where
+  pub new-placed : is-placed (p ∷ before) (p .task) ≡ true
+  unfolding is-placed
+  new-placed = rw (eq-eqb (p .task) (p .task) refl) refl
+
   pub old-placed : (i : ℕ) → is-placed before i ≡ true → is-placed (p ∷ before) i ≡ true
   unfolding is-placed
   old-placed i h = or-right (eqb (p .task) i) (is-placed before i) h

@@ -1,53 +1,48 @@
--- The placing order: the next task has the highest R of those left, ties to the lower number.
--- So a task's predecessors, whose R is higher, come before it.
+-- The placing order: the next task has the highest R of those whose predecessors are all placed, ties to the lower number.
 use Prim.Native.Nat.{ℕ, _+_, _*_, _≤_, _<_}
-use mathlib.Core.Path.{_≡_, refl, ap}
-use mathlib.Core.Bool.{Bool, true, false, cond, not}
+use mathlib.Core.Path.{_≡_, refl}
+use mathlib.Core.Bool.{Bool, cond}
 use native.Mathlib.Omega.{arith}
 use lib.Dec.{eqb}
 use borrow.Author.Tests.{eq-eqb}
+use Rattle.rules.specs.Folds.{sum}
 use Rattle.rules.specs.Orders.{tie}
 use Rattle.rules.specs.Workflow.{Workflow}
 use Rattle.rules.specs.Cycle.{Leads}
-use Rattle.rules.specs.Ranks.{rank-by, R, next-task}
-use Rattle.laws.specs.Tests.{true-unless-false}
-use Rattle.laws.specs.Folds.{at-most-sum, at-most-largest}
+use Rattle.rules.specs.Ranks.{rank-by, R, may-be-next, next-task}
+use Rattle.laws.specs.Folds.{at-most-largest}
 use Rattle.laws.specs.Orders.{higher-false}
 use Rattle.laws.specs.Strict.{tie-strict, higher-strict, first-among-unbeaten, first-among-lowest}
+use Rattle.laws.specs.NextTask.{MayBeNext, may-be-next-tested}
 use Rattle.laws.specs.Ranks.{R-equation}
 use Rattle.demands.specs.Ground.GoodWorkflow.{GoodWorkflow}
 
--- "Tasks are placed by falling R; equal R, lower number first": of those not placed, i has the highest R, and the lowest number of those with that R.
+-- "the highest rank among unplaced tasks whose predecessors are all placed; ties to lower number": of those i has the highest R, and the lowest number of
+-- those with that R.
 pub record HighestLeft (W : Workflow) (placed : ℕ → Bool) (i : ℕ) : Type 0 where
-  pub highest : (k : ℕ) → k < W .tasks → placed k ≡ false → R W k ≤ R W i
-  pub then-lowest : (k : ℕ) → k < W .tasks → placed k ≡ false → R W k ≡ R W i → i ≤ k
+  pub highest : (k : ℕ) → k < W .tasks → MayBeNext W placed k → R W k ≤ R W i
+  pub then-lowest : (k : ℕ) → k < W .tasks → MayBeNext W placed k → R W k ≡ R W i → i ≤ k
 
 pub next-task-highest : (W : Workflow) (placed : ℕ → Bool) → HighestLeft W placed (next-task W placed)
 unfolding next-task
 next-task-highest W placed =
-    let left : ℕ → Bool = λ i. not (placed i) in
+    let test = may-be-next W placed in
     let strict = higher-strict (R W) tie-strict in
     record {
-      highest = λ k below free. higher-false (R W) tie k _ .0 (first-among-unbeaten left strict (W .tasks) k below (ap not free)) .0;
-      then-lowest = λ k below free same.
-          first-among-lowest left strict (W .tasks) k below (ap not free)
+      highest = λ k below may.
+          higher-false (R W) tie k _ .0 (first-among-unbeaten test strict (W .tasks) k below (may-be-next-tested W placed k may)) .0;
+      then-lowest = λ k below may same.
+          first-among-lowest test strict (W .tasks) k below (may-be-next-tested W placed k may)
           (higher-false (R W) tie _ k .1 (omega arith, λ _. unfold tie in refl));
     }
 
-module _ (W : Workflow) (good : GoodWorkflow W) (acyclic : (i : ℕ) → Leads W i i → ⊥) where
-  -- "R(i) = sum over j of w(i,j), plus the largest over edges i to k of m x c(i,k) + R(k)": a task's R is above each successor's.
-  pub from-ranks-higher : (e : ℕ) → e < W .edges → R W (W .to e) < R W (W .from e)
-  unfolding rank-by
-  from-ranks-higher e l =
-      let i = W .from e in
-      let along-edge : ℕ → ℕ = λ x. cond (eqb (W .from x) i) (W .processors * W .transfer x + R W (W .to x)) 0 in
-      let on = rw (eq-eqb i i refl) at (at-most-largest (W .edges) along-edge e l) in
-      let own = at-most-sum (W .processors) (W .minutes i) 0 (good .processors) in
-      let own-positive = good .minutes i 0 (good .from e l) (good .processors) in
-      omega (arith, R-equation W (good .to) acyclic i (good .from e l), on)
-
-  pub predecessors-placed : (placed : ℕ → Bool) (e : ℕ) → e < W .edges → W .to e ≡ next-task W placed → placed (W .from e) ≡ true
-  predecessors-placed placed e l is-next =
-      true-unless-false (placed (W .from e)) (λ free.
-      let higher-R : R W (next-task W placed) < R W (W .from e) = rw is-next at (from-ranks-higher e l) in
-      omega (arith, next-task-highest W placed .highest (W .from e) (good .from e l) free))
+-- "R(i) = sum over j of w(i,j), plus the largest over edges i to k of m x c(i,k) + R(k)": so along an edge.
+pub R-at-least :
+    (W : Workflow) → GoodWorkflow W → ((i : ℕ) → Leads W i i → ⊥) → (e : ℕ) → e < W .edges
+    → sum (W .processors) (W .minutes (W .from e)) + (W .processors * W .transfer e + R W (W .to e)) ≤ R W (W .from e)
+unfolding rank-by
+R-at-least W good acyclic e l =
+    let i = W .from e in
+    let along-edge : ℕ → ℕ = λ x. cond (eqb (W .from x) i) (W .processors * W .transfer x + R W (W .to x)) 0 in
+    let on = rw (eq-eqb i i refl) at (at-most-largest (W .edges) along-edge e l) in
+    omega (arith, R-equation W (good .to) acyclic i (good .from e l), on)

@@ -4,8 +4,7 @@ use Prim.Native.Nat.{ℕ, _+_, _≤_, _<_}
 use mathlib.Core.Path.{_≡_, refl, sym}
 use mathlib.Core.Bool.{Bool, true, false, cond}
 use mathlib.Core.List.{List, [], _∷_, List·Memᴰ, List·Memᴰ·head, List·Memᴰ·tail}
-use mathlib.Core.Logic.{_⊎_, ⊎-swap, _≢_}
-use native.Mathlib.Omega.{arith}
+use mathlib.Core.Logic.{_⊎_, _≢_}
 use lib.Dec.{eqb}
 use borrow.Author.Tests.{eq-eqb}
 use Rattle.rules.specs.Workflow.{Interval, Workflow, busy-with}
@@ -14,9 +13,8 @@ use Rattle.rules.specs.Start.{Overlap}
 use Rattle.rules.specs.Rows.{Row, Placed, row-of, is-placed, taken-up, busy}
 use Rattle.rules.specs.Method.{Method}
 use Rattle.rules.specs.Placing.{ready-for, start-of, finish-of, row-on}
-use Rattle.laws.specs.Free.{one-ends-before}
+use Rattle.laws.specs.Free.{overlap-turned, one-ends-before}
 use Rattle.laws.specs.StartLaws.{start-is}
-use Rattle.demands.specs.Ground.GoodWorkflow.{GoodWorkflow}
 use Rattle.demands.specs.Demand2.Lookup.{none-placed, each-row}
 use Rattle.demands.specs.Demand2.Built.{placed-on, Built, at-first, one-more}
 
@@ -27,9 +25,15 @@ pub record RowTrue (W : Workflow) (i : ℕ) (r : Row) : Type 0 where
   pub finish : r .finish ≡ r .start + W .minutes i (r .processor)
   pub cost : r .cost ≡ cost W i (r .processor)
 
--- On one processor the one ends before the other begins.
+-- On one processor they have no minute in common. So one that takes no minutes is apart from all.
 abbrev pub Apart : Row → Row → Type 0
-Apart r r′ = r .processor ≡ r′ .processor → (r .finish ≤ r′ .start) ⊎ (r′ .finish ≤ r .start)
+Apart r r′ = r .processor ≡ r′ .processor → Overlap (taken-up r) (taken-up r′) → ⊥
+
+-- Of two that take minutes the one then ends before the other begins.
+pub one-after-the-other :
+    (r r′ : Row) → Apart r r′ → r .processor ≡ r′ .processor → r .start < r .finish → r′ .start < r′ .finish
+    → (r′ .finish ≤ r .start) ⊎ (r .finish ≤ r′ .start)
+one-after-the-other r r′ apart same some some′ = one-ends-before (taken-up r) (taken-up r′) some some′ (apart same)
 
 -- "no task runs while its machine is down": a row has no minute in common with what its processor is busy with at first, its windows.
 abbrev pub WhileUp : Workflow → Row → Type 0
@@ -79,33 +83,24 @@ module _ (M : Method) (W : Workflow) where
       (λ v m. start-is (busy W before j) (ready-for W before n j) (W .minutes n j) .overlaps-nothing v (first-busy W before j m))
       (rows-while-up built)
 
-  module _ (good : GoodWorkflow W) where
-    -- Each row has minutes.
-    row-has-minutes : {i : ℕ} {r : Row} → RowTrue W i r → r .start < r .finish
-    row-has-minutes {i} {r} holds = omega (arith, holds .finish, good .minutes i (r .processor) (holds .task) (holds .processor))
+  -- A new row is clear of each row that is on its processor.
+  new-apart :
+      {before : List Placed} → Built M W before → (n j k : ℕ) → is-placed before k ≡ true → Apart (row-on W before n j) (row-of before k)
+  unfolding row-on start-of finish-of
+  new-apart {before} built n j k placed same =
+      let start = start-is (busy W before j) (ready-for W before n j) (W .minutes n j) in
+      start .overlaps-nothing (taken-up (row-of before k)) (rw same (rows-busy built k placed))
 
-    -- A new row is clear of each row that is on its processor.
-    new-apart :
-        {before : List Placed} → Built M W before → (n j k : ℕ) → n < W .tasks → j < W .processors → is-placed before k ≡ true
-        → j ≡ row-of before k .processor
-        → (row-of before k .finish ≤ start-of W before n j) ⊎ (finish-of W before n j ≤ row-of before k .start)
-    unfolding start-of finish-of
-    new-apart {before} built n j k task processor placed same =
-        let start = start-is (busy W before j) (ready-for W before n j) (W .minutes n j) in
-        one-ends-before _ (taken-up (row-of before k)) (omega (arith, good .minutes n j task processor)) (row-has-minutes (rows-true built k placed))
-        (start .overlaps-nothing (taken-up (row-of before k)) (rw same (rows-busy built k placed)))
-
-    pub rows-apart :
-        {rows : List Placed} → Built M W rows → (i k : ℕ) → is-placed rows i ≡ true → is-placed rows k ≡ true → i ≢ k
-        → Apart (row-of rows i) (row-of rows k)
-    unfolding row-on
-    rows-apart at-first = λ i k h g differ. absurd (none-placed i h)
-    rows-apart (one-more {before = before} {i = n} {j = j} built next) = λ i k h g.
-        let p = placed-on W before n j in
-        each-row p before (λ x r. x ≢ k → Apart r (row-of (p ∷ before) k))
-        (each-row p before (λ y r. n ≢ y → Apart (p .row) r) (λ differ. absurd (differ refl))
-        (λ y placed differ same. ⊎-swap (new-apart built n j y (next .task) (next .processor) placed same)) k g)
-        (λ x placed.
-        each-row p before (λ y r. x ≢ y → Apart (row-of before x) r) (λ differ same. new-apart built n j x (next .task) (next .processor) placed (sym same))
-        (λ y placed′. rows-apart built x y placed placed′) k g)
-        i h
+  pub rows-apart :
+      {rows : List Placed} → Built M W rows → (i k : ℕ) → is-placed rows i ≡ true → is-placed rows k ≡ true → i ≢ k
+      → Apart (row-of rows i) (row-of rows k)
+  rows-apart at-first = λ i k h g differ. absurd (none-placed i h)
+  rows-apart (one-more {before = before} {i = n} {j = j} built next) = λ i k h g.
+      let p = placed-on W before n j in
+      each-row p before (λ x r. x ≢ k → Apart r (row-of (p ∷ before) k))
+      (each-row p before (λ y r. n ≢ y → Apart (p .row) r) (λ differ. absurd (differ refl)) (λ y placed differ. new-apart built n j y placed) k g)
+      (λ x placed.
+      each-row p before (λ y r. x ≢ y → Apart (row-of before x) r)
+      (λ differ same overlap. new-apart built n j x placed (sym same) (overlap-turned (taken-up (row-of before x)) (taken-up (p .row)) overlap))
+      (λ y placed′. rows-apart built x y placed placed′) k g)
+      i h

@@ -27,7 +27,7 @@ module _ (M : Method) (W : Workflow) where
         let r = placed-on W before n j .row in
         total-more (placed-on W before n j) before
         ∙ ap (λ x. join x (figure r)) (total-over-tasks built)
-        ∙ sym (changed n (λ i. figure (row-of before i)) (figure r) (next .task) (ap figure (row-of-unplaced before n (next .free)) ∙ none))
+        ∙ sym (changed n (λ i. figure (row-of before i)) (figure r) (next .task) (ap figure (row-of-unplaced before n (next .may .left)) ∙ none))
         ∙ ap over-tasks (fun-ext (λ i. sym (cond-mapped figure (eqb n i) r (row-of before i))))
 
   pub spent-is-sum : {rows : List Placed} → Built M W rows → spent rows ≡ sum (W .tasks) (λ i. row-of rows i .cost)

@@ -17,7 +17,7 @@ use Rattle.rules.specs.Ranks.{cheapest-total, rank-by, R}
 use Rattle.rules.specs.Rows.{Placed, row-of, is-placed, spent, length-of}
 use Rattle.rules.specs.Method.{HBCS}
 use Rattle.rules.specs.Placing.{place}
-use Rattle.rules.specs.Answer.{Outcome, plan, refusal, too-late, placed-outcome, outcome-by, outcome}
+use Rattle.rules.specs.Answer.{Outcome, plan, refusal, too-late, placed-outcome, outcome-of, outcome-by, outcome}
 use Rattle.laws.specs.Unmarked.{count-unmarked, none-unmarked}
 use Rattle.laws.specs.Cycles.{LowestInCycle, none-leads-back, lowest-in-cycle-lowest}
 use Rattle.laws.specs.Ranks.{R-equation}
@@ -71,7 +71,7 @@ pub data Due (W : Workflow) (lent : ℕ) : Outcome → Type 0 where
   planned : {rows : List Placed} → Placeable W lent → MethodsPlan W rows → too-late (W .deadline) (length-of rows) ≡ false → Due W lent (plan W rows)
 
 pub plan-is-the-methods : (W : Workflow) → GoodWorkflow W → (lent : ℕ) → Due W lent (outcome-by HBCS W lent)
-unfolding outcome-by placed-outcome
+unfolding outcome-by outcome-of placed-outcome
 plan-is-the-methods W good lent =
     refuse-either (Due W lent) (ltb lent (W .tasks)) 7 (W .tasks) _ (λ few. seven (ltb-true lent (W .tasks) few)) (λ enough.
     refuse-either (Due W lent) (cyclic W) 8 (lowest-in-cycle W) _
@@ -96,7 +96,7 @@ plan-is-the-methods W good lent =
     methods-plan : ((i : ℕ) → Leads W i i → ⊥) → cheapest-total W ≤ W .budget → MethodsPlan W (place HBCS W (W .tasks))
     methods-plan acyclic within =
         let rows = place HBCS W (W .tasks) in
-        let all-of-them = HBCS-places-all W (good .processors) within in
+        let all-of-them = HBCS-places-all W (good .processors) within (good .from) acyclic in
         let built = all-of-them .built in
         let none-left : count-unmarked (W .tasks) (is-placed rows) ≡ 0 = omega (arith, built-count HBCS W built, all-of-them .count) in
         let all = none-unmarked (is-placed rows) (W .tasks) none-left in
@@ -106,9 +106,9 @@ plan-is-the-methods W good lent =
           none-twice = all-of-them .count;
           steps = steps-as-the-method W (good .processors) within built;
           rows-true = λ i l. rows-true HBCS W built i (all i l);
-          apart = λ i k l m. rows-apart HBCS W good built i k (all i l) (all k m);
+          apart = λ i k l m. rows-apart HBCS W built i k (all i l) (all k m);
           while-up = λ i l. rows-while-up HBCS W built i (all i l);
-          arrived = λ e l. rows-arrived HBCS W good acyclic built (W .to e) (all (W .to e) (good .to e l)) e l refl .1;
+          arrived = λ e l. rows-arrived HBCS W built (W .to e) (all (W .to e) (good .to e l)) e l refl .1;
           length-largest = length-is-largest HBCS W built;
           cost-sum = spent-is-sum HBCS W built;
           left-over = omega (arith, all-of-them .fits);

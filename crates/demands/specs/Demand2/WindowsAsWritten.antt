@@ -1,10 +1,10 @@
--- No task of a plan runs while its machine is down, by the windows that stand in the request: its row ends before a window of its processor begins, or
--- begins when that has ended. Stated of the rows that the caller holds, in lent rows or in four buffers.
+-- No task of a plan runs while its machine is down, by the windows that stand in the request: its row has no minute in common with a window of its
+-- processor. Stated of the rows that the caller holds, in lent rows or in four buffers.
 use Prim.Native.Nat.{ℕ, zero, suc, _≤_, _<_}
 use mathlib.Core.Path.{_≡_, ap, subst}
 use mathlib.Core.Bool.{Bool, true, false, cond}
 use mathlib.Core.List.{List, _∷_, List·Memᴰ, List·Memᴰ·head, List·Memᴰ·tail}
-use mathlib.Core.Logic.{_⊎_, ⊎-swap, ⊎-elim}
+use mathlib.Core.Logic.{⊎-elim}
 use native.Mathlib.Nat.{eq-or-lt-of-le, le-of-suc-le-suc}
 use native.Mathlib.Omega.{arith}
 use lib.Dec.{eqb}
@@ -13,9 +13,7 @@ use Rattle.rules.specs.Fields.{M-processor, M-begin, M-end}
 use Rattle.rules.specs.Reading.{Request}
 use Rattle.rules.specs.Workflow.{window-place, busy-with, window-of, windows-on, workflow}
 use Rattle.rules.specs.Rows.{Row, taken-up}
-use Rattle.laws.specs.Free.{one-ends-before}
-use Rattle.demands.specs.Ground.GoodWorkflow.{good-workflow}
-use Rattle.demands.specs.Demand1.Reading.{read-iff-passes, records-pass}
+use Rattle.laws.specs.Free.{common-overlaps}
 use Rattle.demands.specs.Demand2.{PlanGot}
 
 -- A processor is busy at first with each of its windows.
@@ -38,20 +36,15 @@ window-listed s r (suc k) e j l on =
     later true m = List·Memᴰ·tail m
     later false m = m
 
--- "`M` is a maintenance window: the processor is down from begin on, up to end."
+-- "`M` is a maintenance window: the processor is down from begin on, up to end." A minute t of a row is none of them.
 pub no-row-in-a-window :
     {s : List ℕ} {lent n l c left : ℕ} {row : ℕ → Row} (got : PlanGot s lent n l c left row) (i e : ℕ) → i < n → e < got .request .windows
     → let window = window-place (got .request) e in
     M-processor s window ≡ row i .processor
-    → (row i .finish ≤ M-begin s window) ⊎ (M-end s window ≤ row i .start)
+    → (t : ℕ) → row i .start ≤ t → t < row i .finish → M-begin s window ≤ t → t < M-end s window → ⊥
 unfolding workflow window-of
-no-row-in-a-window {s} {row = row} got i e task below on =
+no-row-in-a-window {s} {row = row} got i e task below on t started unfinished down until =
     let r = got .request in
-    let (end, is-read) = read-iff-passes s r .1 (got .passes) in
-    let row-true = got .held .rows-true i task in
-    let minutes = good-workflow s is-read .minutes i (row i .processor) (row-true .task) (row-true .processor) in
-    let window-in = records-pass s (got .passes) .windows e below .in-range .0 in
     let window = window-of s (window-place r e) in
-    ⊎-swap
-    (one-ends-before (taken-up (row i)) window (omega (arith, row-true .finish)) (window-in .has-minutes)
-    (got .held .while-up i task window (window-listed s r (r .windows) e (row i .processor) below on)))
+    got .held .while-up i task window (window-listed s r (r .windows) e (row i .processor) below on)
+    (common-overlaps (taken-up (row i)) window (record { in-one = (started, unfinished); in-other = (down, until) }))

@@ -15,7 +15,7 @@ use Rattle.rules.specs.Ranks.{cheapest-total}
 use Rattle.rules.specs.Method.{Method}
 use Rattle.rules.specs.Rows.{Row, Placed, row-of, length-of}
 use Rattle.rules.specs.Placing.{RB, place}
-use Rattle.rules.specs.Answer.{Outcome, plan, refusal, refuse, too-late, placed-outcome, outcome-by, planned, answer-of, written}
+use Rattle.rules.specs.Answer.{Outcome, plan, refusal, refuse, too-late, placed-outcome, outcome-of, outcome-by, planned, answer-of, written}
 use Rattle.rules.specs.Buffers.{Buffers, row-in, buffers-written}
 use Rattle.rules.specs.Multiplied.{multiplied-deadline, multiplied, multiplied-row, multiplied-place, multiplied-answer}
 use Rattle.laws.specs.Tests.{ltb-multiplied}
@@ -54,7 +54,7 @@ module _ (a b : ℕ) (pa : 1 ≤ a) (W : Workflow) where
   pub outcome-by-multiplied :
       1 ≤ b → (M : Method) → KeepsChoices M → (lent : ℕ)
       → outcome-by M (multiplied a b W) lent ≡ multiplied-outcome a b (outcome-by M W lent)
-  unfolding outcome-by multiplied-place multiplied
+  unfolding outcome-by outcome-of multiplied-place multiplied
   outcome-by-multiplied pb M keeps lent =
       let placed = placed-outcome W (place M W (W .tasks)) in
       let affordable = refuse (ltb (W .budget) (cheapest-total W)) 9 (cheapest-total W) placed in

@@ -1,7 +1,7 @@
 -- Costs of a multiplied workflow are a times b times; paths and cycles are the same; ranks are a times, so that the placing order is the same.
 use Prim.Native.Nat.{ℕ, zero, suc, _+_, _*_, _≤_, max}
 use mathlib.Core.Path.{_≡_, refl, sym, ap, ap₂, _∙_, fun-ext}
-use mathlib.Core.Bool.{Bool, cond, not}
+use mathlib.Core.Bool.{Bool, cond}
 use native.Mathlib.Omega.{arith}
 use native.Mathlib.Nat.{mul-zero, mul-add}
 use lib.Dec.{eqb}
@@ -9,7 +9,7 @@ use Rattle.rules.specs.Folds.{sum, largest, lowest, any}
 use Rattle.rules.specs.Orders.{tie, among, first}
 use Rattle.rules.specs.Workflow.{Workflow}
 use Rattle.rules.specs.Cycle.{linked, leads-through, back-to-itself, cyclic, lowest-in-cycle}
-use Rattle.rules.specs.Ranks.{cost, lowest-cost, cheapest-total, rank-by, rank-within, R, next-task}
+use Rattle.rules.specs.Ranks.{cost, lowest-cost, cheapest-total, rank-by, rank-within, R, waits, may-be-next, next-task}
 use Rattle.rules.specs.Multiplied.{multiplied}
 use Rattle.laws.specs.Numbers.{max-multiplied, or-zero-multiplied}
 use Rattle.laws.specs.Folds.{sum-multiplied, largest-multiplied, lowest-multiplied}
@@ -67,9 +67,8 @@ module _ (a b : ℕ) (W : Workflow) where
   R-multiplied i = rank-within-multiplied (W .tasks) i
 
   pub next-task-multiplied : 1 ≤ a → (placed : ℕ → Bool) → next-task (multiplied a b W) placed ≡ next-task W placed
-  unfolding next-task multiplied
+  unfolding next-task may-be-next waits multiplied
   next-task-multiplied pa placed =
-      let unplaced : ℕ → Bool = λ i. not (placed i) in
       first-same (W .tasks) _ _ (λ i j k l.
-      among-same unplaced unplaced _ _ i j refl refl
+      among-same (may-be-next W placed) (may-be-next W placed) _ _ i j refl refl
       (higher-multiplied a pa _ (R W) tie tie i j (R-multiplied i) (R-multiplied j) refl))

@@ -2,7 +2,7 @@
 use Prim.Native.Nat.{ℕ, zero, suc, _+_, _*_, _≤_}
 use mathlib.Core.Path.{_≡_, refl, sym, ap, _∙_, fun-ext}
 use mathlib.Core.Bool.{cond, _||_}
-use mathlib.Core.List.{List, _∷_, map}
+use mathlib.Core.List.{List, map}
 use native.Mathlib.Nat.{mul-add, mul-sub, mul-pos}
 use lib.Dec.{eqb}
 use Rattle.rules.specs.Folds.{sum, largest}
@@ -11,7 +11,7 @@ use Rattle.rules.specs.Ranks.{lowest-cost, next-task}
 use Rattle.rules.specs.Start.{arrival, arrived, ready}
 use Rattle.rules.specs.Rows.{Placed, row-of, is-placed, busy, spent}
 use Rattle.rules.specs.Method.{Method}
-use Rattle.rules.specs.Placing.{ready-for, start-of, finish-of, RB, RCB, question, row-on, place-next, place}
+use Rattle.rules.specs.Placing.{ready-for, start-of, finish-of, RB, RCB, question, row-on, place-task, place-next, place}
 use Rattle.rules.specs.Multiplied.{multiplied, multiplied-row}
 use Rattle.laws.specs.Numbers.{max-multiplied, or-zero-multiplied, zero-or-multiplied}
 use Rattle.laws.specs.Folds.{sum-multiplied, largest-multiplied}
@@ -90,17 +90,17 @@ module _ (a b : ℕ) (pa : 1 ≤ a) (W : Workflow) where
         }
 
   module _ (pb : 1 ≤ b) (M : Method) (keeps : KeepsChoices M) where
+    place-task-multiplied : (rows : List Placed) (i : ℕ) → place-task M W′ (rows′ rows) i ≡ rows′ (place-task M W rows i)
+    unfolding place-task multiplied-placed
+    place-task-multiplied rows i =
+        rw (question-multiplied rows i, keeps a (a * b) pa (mul-pos pa pb) (question W rows i), row-on-multiplied rows i (M (question W rows i)))
+
     place-next-multiplied : (rows : List Placed) → place-next M W′ (rows′ rows) ≡ rows′ (place-next M W rows)
-    unfolding place-next multiplied-placed
+    unfolding place-next
     place-next-multiplied rows =
-        ap (λ i. record { task = i; row = row-on W′ (rows′ rows) i (M (question W′ (rows′ rows) i)) } ∷ rows′ rows)
+        ap (place-task M W′ (rows′ rows))
         (ap (next-task W′) (fun-ext (is-placed-multiplied a b rows)) ∙ next-task-multiplied a b W pa (is-placed rows))
-        ∙ go (next-task W (is-placed rows))
-      where
-        go : (i : ℕ) → record { task = i; row = row-on W′ (rows′ rows) i (M (question W′ (rows′ rows) i)) } ∷ rows′ rows
-            ≡ rows′ (record { task = i; row = row-on W rows i (M (question W rows i)) } ∷ rows)
-        go i =
-            rw (question-multiplied rows i, keeps a (a * b) pa (mul-pos pa pb) (question W rows i), row-on-multiplied rows i (M (question W rows i)))
+        ∙ place-task-multiplied rows (next-task W (is-placed rows))
 
     pub place-multiplied : (k : ℕ) → place M W′ k ≡ rows′ (place M W k)
     unfolding place

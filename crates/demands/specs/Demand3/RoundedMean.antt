@@ -2,20 +2,20 @@
 -- same with its times doubled, get other machines.
 use Prim.Native.Nat.{ℕ, zero, suc, _+_, _*_, _/_, _≤_}
 use mathlib.Core.Path.{_≡_, refl, sym, _∙_}
-use mathlib.Core.Bool.{Bool, cond, not, _&&_}
-use mathlib.Core.List.{List, [], _∷_, List·Memᴰ·not-nil}
+use mathlib.Core.Bool.{Bool, cond, _&&_}
+use mathlib.Core.List.{List, [], List·Memᴰ·not-nil}
 use native.Mathlib.Omega.{arith}
 use lib.Dec.{eqb}
 use Rattle.rules.specs.Folds.{sum, largest}
 use Rattle.rules.specs.Orders.{tie, higher, among, first}
 use Rattle.rules.specs.Reading.{no-deadline}
 use Rattle.rules.specs.Workflow.{Workflow}
+use Rattle.rules.specs.Ranks.{may-be-next}
 use Rattle.rules.specs.Rows.{Placed, row-of, is-placed}
 use Rattle.rules.specs.Method.{HBCS}
-use Rattle.rules.specs.Placing.{question, row-on}
+use Rattle.rules.specs.Placing.{place-task}
 use Rattle.rules.specs.Multiplied.{multiplied, multiplied-deadline}
 use Rattle.rules.specs.Cases.{given}
-use Rattle.good.specs.Good.{Between}
 use Rattle.good.specs.Ranges.{InRange}
 use Rattle.laws.specs.Tests.{cond-either}
 
@@ -29,14 +29,12 @@ rounded-rank : Workflow → ℕ → ℕ → ℕ
 rounded-rank W zero = λ i. 0
 rounded-rank W (suc most) = rounded-rank-by W (rounded-rank W most)
 
--- Placing as document 01 has it, by falling rounded ranks.
+-- Placing as the rules have it, by rounded ranks.
 next-rounded : Workflow → (ℕ → Bool) → ℕ
-next-rounded W placed = first (W .tasks) (among (λ i. not (placed i)) (higher (rounded-rank W (W .tasks)) tie))
+next-rounded W placed = first (W .tasks) (among (may-be-next W placed) (higher (rounded-rank W (W .tasks)) tie))
 
 place-next-rounded : Workflow → List Placed → List Placed
-place-next-rounded W so-far =
-    let i = next-rounded W (is-placed so-far) in
-    record { task = i; row = row-on W so-far i (HBCS (question W so-far i)) } ∷ so-far
+place-next-rounded W so-far = place-task HBCS W so-far (next-rounded W (is-placed so-far))
 
 place-rounded : Workflow → ℕ → List Placed
 place-rounded W zero = []
@@ -66,7 +64,7 @@ two-by-two budget minutes =
     }
 
 two-by-two-in-range :
-    (budget : ℕ) (minutes : ℕ → ℕ → ℕ) → budget ≤ 20_000_000 → ((i j : ℕ) → Between 1 (minutes i j) 2_000) → InRange (two-by-two budget minutes)
+    (budget : ℕ) (minutes : ℕ → ℕ → ℕ) → budget ≤ 20_000_000 → ((i j : ℕ) → minutes i j ≤ 2_000) → InRange (two-by-two budget minutes)
 unfolding two-by-two
 two-by-two-in-range budget minutes most each =
     record {
@@ -80,8 +78,7 @@ two-by-two-in-range budget minutes most each =
       clock-in = omega arith;
       price-in = λ j. omega arith;
       minimum-in = λ j. omega arith;
-      minutes-most = λ i j. each i j .to-high;
-      minutes-least = λ i j l m. each i j .from-low;
+      minutes-most = each;
       from-below = λ e l. absurd (omega arith);
       to-below = λ e l. absurd (omega arith);
       unequal = λ e l. absurd (omega arith);
@@ -94,11 +91,9 @@ two-by-two-in-range budget minutes most each =
 near : ℕ → ℕ → ℕ
 near i j = cond (eqb i 1 && eqb j 1) 2 1
 
-near-between : (i j : ℕ) → Between 1 (near i j) 2
+near-most : (i j : ℕ) → near i j ≤ 2
 unfolding near
-near-between i j =
-    cond-either (λ w. Between 1 w 2) (eqb i 1 && eqb j 1) 2 1
-    (λ e. record { from-low = omega arith; to-high = omega arith }) (λ e. record { from-low = omega arith; to-high = omega arith })
+near-most i j = cond-either (λ w. w ≤ 2) (eqb i 1 && eqb j 1) 2 1 (λ e. omega arith) (λ e. omega arith)
 
 machines-change : (machine-rounded (two-by-two 10 near) 0 ≡ 0) × (machine-rounded (multiplied 2 1 (two-by-two 10 near)) 0 ≡ 1)
 unfolding given machine-rounded place-rounded place-next-rounded next-rounded rounded-rank rounded-rank-by near two-by-two multiplied
@@ -115,9 +110,9 @@ rounded-mean-breaks-demand-3 same =
   where
     in-range : InRange (two-by-two 10 near)
     in-range =
-        two-by-two-in-range 10 near (omega arith) (λ i j. let h = near-between i j in record { from-low = omega arith; to-high = omega arith })
+        two-by-two-in-range 10 near (omega arith) (λ i j. omega (arith, near-most i j))
 
     in-range′ : InRange (two-by-two 20 (λ i j. 2 * near i j))
     in-range′ =
         two-by-two-in-range 20 (λ i j. 2 * near i j) (omega arith)
-        (λ i j. let h = near-between i j in record { from-low = omega arith; to-high = omega arith })
+        (λ i j. omega (arith, near-most i j))

@@ -8,10 +8,9 @@ use Rattle.rules.specs.Workflow.{Workflow, workflow}
 use Rattle.good.specs.ReadIsGood.{read-is-good}
 use Rattle.good.specs.RangeLaws.{good-in-range}
 
--- "m 1..16, [..] minutes 1..2,000, [..] edge ends below n"
+-- "m 1..16, [..] edge ends below n"
 pub record GoodWorkflow (W : Workflow) : Type 0 where
   pub processors : 1 ≤ W .processors
-  pub minutes : (i j : ℕ) → i < W .tasks → j < W .processors → 1 ≤ W .minutes i j
   pub from : (e : ℕ) → e < W .edges → W .from e < W .tasks
   pub to : (e : ℕ) → e < W .edges → W .to e < W .tasks
 
@@ -20,7 +19,6 @@ good-workflow s {r = r} good =
     let ranges = good-in-range s r (read-is-good s good) in
     record {
       processors = ranges .processors-in .from-low;
-      minutes = ranges .minutes-least;
       from = ranges .from-below;
       to = ranges .to-below;
     }
