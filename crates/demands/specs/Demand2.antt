@@ -39,8 +39,9 @@ use lib.ListN.{length, drop, getD}
 use Rattle.rules.specs.Folds.{sum, largest}
 use Rattle.rules.specs.Reading.{Request}
 use Rattle.rules.specs.Workflow.{Workflow, workflow}
-use Rattle.rules.specs.Start.{arrival}
+use Rattle.rules.specs.Start.{arrival, ready}
 use Rattle.rules.specs.Rows.{Row, Placed, no-row, row-of, spent, length-of}
+use Rattle.rules.specs.Placing.{ready-for}
 use Rattle.rules.specs.Answer.{Outcome, plan, refusal, too-late, outcome, planned, answer-of, answer, written, rows-after}
 use Rattle.rules.specs.Buffers.{Buffers, rows-lent, row-in, column-after, buffers-written, buffers-after}
 use Rattle.laws.specs.Folds.{sum-same, largest-same}
@@ -50,6 +51,7 @@ use Rattle.demands.specs.Ground.Held.{row-written, row-in-written, Stays
 use Rattle.demands.specs.Demand1.Stands.{PassesReading}
 use Rattle.demands.specs.Demand1.Reading.{read-iff-passes}
 use Rattle.demands.specs.Demand2.Sound.{RowTrue, Apart, WhileUp}
+use Rattle.demands.specs.Demand2.Arrived.{ready-same}
 use Rattle.demands.specs.Demand2.WhatIsDue.{MethodsPlan, Placeable}
 use Rattle.demands.specs.Demand2.PlanBehind.{tasks-told, plan-behind}
 
@@ -67,6 +69,9 @@ pub record PlanHeld (W : Workflow) (n l c left : ℕ) (row : ℕ → Row) : Type
   pub while-up : (i : ℕ) → i < n → WhileUp W (row i)
   pub arrived : (e : ℕ) → e < W .edges →
       arrival W (λ p. row p .processor) (λ p. row p .finish) (row (W .to e) .processor) e ≤ row (W .to e) .start
+  -- A task of no minutes on its processor starts when its data is ready there.
+  pub markers : (i : ℕ) → i < n → W .minutes i (row i .processor) ≡ 0
+      → row i .start ≡ ready W (λ p. row p .processor) (λ p. row p .finish) i (row i .processor)
   -- The rows are those of the method's plan: each task in its order, on the processor that the method chooses, at the start that the rule gives.
   pub placed : List Placed
   pub methods-plan : MethodsPlan W placed
@@ -83,7 +88,7 @@ pub record PlanGot (s : List ℕ) (lent n l c left : ℕ) (row : ℕ → Row) : 
 held-by :
     (W : Workflow) → GoodWorkflow W → (rows : List Placed) → MethodsPlan W rows → too-late (W .deadline) (length-of rows) ≡ false → (row : ℕ → Row)
     → ((i : ℕ) → i < W .tasks → row i ≡ row-of rows i) → PlanHeld W (W .tasks) (length-of rows) (spent rows) (W .budget - spent rows) row
-unfolding arrival
+unfolding arrival ready-for
 held-by W good rows p in-time row same =
     record {
       tasks = refl;
@@ -95,6 +100,9 @@ held-by W good rows p in-time row same =
       apart = λ i k h g. rw (same i h, same k g) (p .apart i k h g);
       while-up = λ i h. rw (same i h) (p .while-up i h);
       arrived = λ e h. rw (same (W .from e) (good .from e h), same (W .to e) (good .to e h)) (p .arrived e h);
+      markers = λ i h none.
+          rw (same i h) (p .markers i h (rw (same i h) at none)
+          ∙ ready-same W (row-of rows) row i (row-of rows i .processor) (λ e l to. sym (same (W .from e) (good .from e l))));
       placed = rows;
       methods-plan = p;
       rows-placed = same;

@@ -189,3 +189,10 @@ pub start-multiplied-by-0 :
 start-multiplied-by-0 vs ready minutes =
     sym (starts-there (map (multiplied-interval 0) vs) (0 * ready) (0 * minutes)
     (record { not-before-ready = omega arith; overlaps-nothing = λ v m o. omega arith; none-earlier = λ u h f. omega arith }))
+
+-- A task of no minutes overlaps nothing: it starts when its data is ready, inside what is busy too.
+pub start-of-none : (busy : List Interval) (ready : ℕ) → start-on busy ready 0 ≡ ready
+start-of-none busy ready =
+    let start = start-is busy ready 0 in
+    let free : Free busy 0 ready = λ v m o. omega arith in
+    omega (arith, start .not-before-ready, start .none-earlier ready (omega arith) free)

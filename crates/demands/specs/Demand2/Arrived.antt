@@ -1,18 +1,19 @@
--- No task starts before its inputs arrived: its predecessors are placed when it is, and their rows stay as they were.
-use Prim.Native.Nat.{ℕ, _≤_, _<_}
-use mathlib.Core.Path.{_≡_}
-use mathlib.Core.Bool.{true, false, cond}
+-- No task starts before its inputs arrived: its predecessors are placed when it is, and their rows stay as they were. One that takes no minutes starts when
+-- they have.
+use Prim.Native.Nat.{ℕ, _+_, _≤_, _<_, max}
+use mathlib.Core.Path.{_≡_, refl, sym, ap, _∙_}
+use mathlib.Core.Bool.{Bool, true, false, cond}
 use mathlib.Core.List.{List, _∷_}
 use native.Mathlib.Omega.{arith}
 use lib.Dec.{eqb}
-use borrow.Author.Tests.{eq-eqb}
+use borrow.Author.Tests.{eqb-true, eq-eqb}
 use Rattle.rules.specs.Workflow.{Workflow}
-use Rattle.rules.specs.Start.{arrival, arrived, ready}
-use Rattle.rules.specs.Rows.{Placed, row-of, is-placed, busy}
+use Rattle.rules.specs.Start.{arrival, arrived, ready, start-on}
+use Rattle.rules.specs.Rows.{Row, Placed, row-of, is-placed, busy}
 use Rattle.rules.specs.Method.{Method}
 use Rattle.rules.specs.Placing.{ready-for, start-of, row-on}
-use Rattle.laws.specs.Folds.{at-most-largest}
-use Rattle.laws.specs.StartLaws.{start-not-before-ready}
+use Rattle.laws.specs.Folds.{at-most-largest, largest-same}
+use Rattle.laws.specs.StartLaws.{start-not-before-ready, start-of-none}
 use Rattle.demands.specs.Demand2.Lookup.{none-placed, old-placed, old-row, each-row}
 use Rattle.demands.specs.Demand2.Built.{placed-on, Built, at-first, one-more}
 
@@ -33,6 +34,20 @@ arrives-still :
 unfolding arrival
 arrives-still W p before free j e placed = rw (old-row p before free (W .from e) placed)
 
+-- When data is ready is told by the rows of the predecessors alone.
+pub ready-same :
+    (W : Workflow) (row row′ : ℕ → Row) (i j : ℕ) → ((e : ℕ) → e < W .edges → W .to e ≡ i → row (W .from e) ≡ row′ (W .from e))
+    → ready W (λ p. row p .processor) (λ p. row p .finish) i j ≡ ready W (λ p. row′ p .processor) (λ p. row′ p .finish) i j
+unfolding ready arrived arrival
+ready-same W row row′ i j same =
+    ap (max (W .clock)) (largest-same (W .edges) _ _ (λ e l.
+    cond-either-same (eqb (W .to e) i) (λ to.
+    ap (λ r. r .finish + cond (eqb (r .processor) j) 0 (W .transfer e)) (same e l (eqb-true (W .to e) i to)))))
+  where
+    cond-either-same : (t : Bool) {x y : ℕ} → (t ≡ true → x ≡ y) → cond t x 0 ≡ cond t y 0
+    cond-either-same true e = e refl
+    cond-either-same false e = refl
+
 module _ (M : Method) (W : Workflow) where
   pub rows-arrived :
       {rows : List Placed} → Built M W rows → (i : ℕ) → is-placed rows i ≡ true → (e : ℕ) → e < W .edges → W .to e ≡ i
@@ -52,3 +67,21 @@ module _ (M : Method) (W : Workflow) where
       (λ i h e l to-i.
       let (placed, arrived) = rows-arrived built i h e l to-i in
       (old-placed p before (W .from e) placed, rw (arrives-still W p before (next .may .left) (row-of before i .processor) e placed) arrived))
+
+  -- A task of no minutes on its processor starts when its data is ready there.
+  pub markers-at-once :
+      {rows : List Placed} → Built M W rows → (i : ℕ) → is-placed rows i ≡ true → W .minutes i (row-of rows i .processor) ≡ 0
+      → row-of rows i .start ≡ ready-for W rows i (row-of rows i .processor)
+  unfolding row-on start-of ready-for
+  markers-at-once at-first = λ i h. absurd (none-placed i h)
+  markers-at-once (one-more {before = before} {i = n} {j = j} built next) =
+      let p = placed-on W before n j in
+      let still : (i k : ℕ) → ((e : ℕ) → e < W .edges → W .to e ≡ i → is-placed before (W .from e) ≡ true) → ready-for W before i k ≡ ready-for W (p ∷ before) i k =
+      λ i k placed.
+      ready-same W (row-of before) (row-of (p ∷ before)) i k (λ e l to. sym (old-row p before (next .may .left) (W .from e) (placed e l to))) in
+      each-row p before (λ i r. W .minutes i (r .processor) ≡ 0 → r .start ≡ ready-for W (p ∷ before) i (r .processor))
+      (λ none.
+      ap (start-on (busy W before j) (ready-for W before n j)) none ∙ start-of-none (busy W before j) (ready-for W before n j)
+      ∙ still n j (next .may .predecessors-placed))
+      (λ i h none.
+      markers-at-once built i h none ∙ still i (row-of before i .processor) (λ e l to. rows-arrived built i h e l to .0))

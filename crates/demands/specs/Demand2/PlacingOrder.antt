@@ -57,7 +57,7 @@ record PlacedAt (W : Workflow) (rows : List Placed) (i : ℕ) : Type 0 where
 module _ (W : Workflow) where
   placed-at : (rows : List Placed) → EachStep (AsTheMethod W) rows → (i : ℕ) → is-placed rows i ≡ true → PlacedAt W rows i
   placed-at [] steps i placed = absurd (none-placed i placed)
-  placed-at (p ∷ before) (step, steps) i placed = 
+  placed-at (p ∷ before) (step, steps) i placed =
       ⊎-elim (λ is. subst (PlacedAt W (p ∷ before)) is newest) (λ h. older h (placed-at before steps i h)) (placed-cases p before i placed)
     where
       new : is-placed before (p .task) ≡ true → ⊥

@@ -16,7 +16,7 @@ use Rattle.rules.specs.Cycle.{Leads, cyclic, lowest-in-cycle}
 use Rattle.rules.specs.Ranks.{cheapest-total, rank-by, R}
 use Rattle.rules.specs.Rows.{Placed, row-of, is-placed, spent, length-of}
 use Rattle.rules.specs.Method.{HBCS}
-use Rattle.rules.specs.Placing.{place}
+use Rattle.rules.specs.Placing.{ready-for, place}
 use Rattle.rules.specs.Answer.{Outcome, plan, refusal, too-late, placed-outcome, outcome-of, outcome-by, outcome}
 use Rattle.laws.specs.Unmarked.{count-unmarked, none-unmarked}
 use Rattle.laws.specs.Cycles.{LowestInCycle, none-leads-back, lowest-in-cycle-lowest}
@@ -27,7 +27,7 @@ use Rattle.demands.specs.Ground.GoodRequest.{outcome-of-good}
 use Rattle.demands.specs.Demand2.Built.{built-count}
 use Rattle.demands.specs.Demand2.Steps.{EachStep, AsTheMethod, steps-as-the-method}
 use Rattle.demands.specs.Demand2.Sound.{RowTrue, Apart, WhileUp, rows-true, rows-apart, rows-while-up}
-use Rattle.demands.specs.Demand2.Arrived.{arrives, rows-arrived}
+use Rattle.demands.specs.Demand2.Arrived.{arrives, rows-arrived, markers-at-once}
 use Rattle.demands.specs.Demand2.Affordable.{HBCS-places-all}
 use Rattle.demands.specs.Demand2.Totals.{spent-is-sum, length-is-largest}
 use Rattle.demands.specs.Demand2.Cheapest.{Assignment, costs-in-all, cheapest-at-most-any, cheapest-attained}
@@ -44,6 +44,8 @@ pub record MethodsPlan (W : Workflow) (rows : List Placed) : Type 0 where
   pub apart : (i k : ℕ) → i < W .tasks → k < W .tasks → i ≢ k → Apart (row-of rows i) (row-of rows k)
   pub while-up : (i : ℕ) → i < W .tasks → WhileUp W (row-of rows i)
   pub arrived : (e : ℕ) → e < W .edges → arrives W rows (row-of rows (W .to e) .processor) e ≤ row-of rows (W .to e) .start
+  -- A task of no minutes on its processor starts when its data is ready there.
+  pub markers : (i : ℕ) → i < W .tasks → W .minutes i (row-of rows i .processor) ≡ 0 → row-of rows i .start ≡ ready-for W rows i (row-of rows i .processor)
   -- The summary: length, cost, budget left.
   pub length-largest : length-of rows ≡ largest (W .tasks) (λ i. row-of rows i .finish)
   pub cost-sum : spent rows ≡ sum (W .tasks) (λ i. row-of rows i .cost)
@@ -109,6 +111,7 @@ plan-is-the-methods W good lent =
           apart = λ i k l m. rows-apart HBCS W built i k (all i l) (all k m);
           while-up = λ i l. rows-while-up HBCS W built i (all i l);
           arrived = λ e l. rows-arrived HBCS W built (W .to e) (all (W .to e) (good .to e l)) e l refl .1;
+          markers = λ i l. markers-at-once HBCS W built i (all i l);
           length-largest = length-is-largest HBCS W built;
           cost-sum = spent-is-sum HBCS W built;
           left-over = omega (arith, all-of-them .fits);
