@@ -12,19 +12,25 @@ pub fn busy_at_first(s: &[u8], v: View) -> Processors
     requires { ⌜ ViewOf (now s) v ⌝ }
     ensures { λ r. ⌜ (r ≡ kept-windows (now (s .entry)) (meant-view v) (v .windows)) × Keeps (workflow-of (now (s .entry)) v .busy-at-first) (v .windows) r ⌝ }
 {
-    let mut processors = Processors {
-        begins: [0u32; 128],
-        ends: [0u32; 128],
-        first: [0usize; 17],
-    };
+    let mut begins = [0u32; 128];
+    let mut ends = [0u32; 128];
+    let mut first = [0usize; 17];
     let mut e = 0;
     while e < v.windows {
         let w = lookup::window_of(s, v, e);
-        let at = busy::position(&processors.begins, &processors.first, w.processor, w.begin);
-        busy::insert(&mut processors.begins, at, e, w.begin as u32);
-        busy::insert(&mut processors.ends, at, e, w.end as u32);
-        busy::one_more(&mut processors.first, w.processor);
+        busy::put(
+            &mut begins,
+            &mut ends,
+            &mut first,
+            w.processor,
+            w.begin,
+            w.end,
+        );
         e += 1;
     }
-    processors
+    Processors {
+        begins,
+        ends,
+        first,
+    }
 }

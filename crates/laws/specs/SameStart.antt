@@ -1,11 +1,11 @@
 -- What a processor may be busy with for the same starts: only when a task can start counts, and so only which intervals there are.
 use Prim.Native.Nat.{ℕ, _+_, _-_, _≤_, _<_, max}
-use mathlib.Core.Path.{_≡_, sym, _∙_}
+use mathlib.Core.Path.{_≡_, sym, _∙_, subst}
 use mathlib.Core.List.{List, _∷_, List·Memᴰ, List·Memᴰ·cases-cons, List·Memᴰ·head, List·Memᴰ·tail}
 use mathlib.Core.Logic.{⊎-elim}
 use native.Mathlib.Omega.{arith}
 use Rattle.rules.specs.Workflow.{Interval}
-use Rattle.rules.specs.Start.{Free, start-on}
+use Rattle.rules.specs.Start.{minutes-from, Overlap, Free, start-on}
 use Rattle.laws.specs.Numbers.{below-or-on}
 use Rattle.laws.specs.StartLaws.{start-is, starts-there, start-at-most}
 
@@ -50,6 +50,14 @@ same-start-more v one other same =
     same-free-same-start (v ∷ one) (v ∷ other)
     (more-free v one other (same-start-same-free one other same))
     (more-free v other one (same-start-same-free other one (λ ready minutes. sym (same ready minutes))))
+
+-- One that has no minutes changes nothing.
+pub same-start-none : (v : Interval) (busy : List Interval) → v .end ≤ v .begin → SameStart busy (v ∷ busy)
+same-start-none v busy none =
+    same-free-same-start busy (v ∷ busy)
+    (λ minutes t f u m o.
+    ⊎-elim (λ (q : u ≡ v). let over = subst (Overlap (minutes-from t minutes)) q o in omega arith) (λ h. f u h o) (List·Memᴰ·cases-cons m))
+    (λ minutes t f u m. f u (List·Memᴰ·tail m))
 
 -- Each that has minutes ends by when all of the other end: a task of one minute can't start in its last.
 pub same-start-ends :
