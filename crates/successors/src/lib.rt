@@ -1,9 +1,13 @@
 // The edges out of each task, which stand one after the other in a request: where they begin, and how many of the edges into each task come from one that is
 // not placed yet.
+ghost use mathlib.Core.Path.{_≡_};
+ghost use mathlib.Core.Bool.{false};
 ghost use Prim.Native.Nat.{_+_};
+ghost use lib.ListN.{replicate};
 ghost use Rattle.reader.specs.Meaning.{ViewOf};
 ghost use Rattle.lookup.specs.Lookup.{workflow-of};
 ghost use Rattle.successors.specs.Begins.{Begins, BeginsFrom};
+ghost use Rattle.successors.specs.Held.{Held};
 use reader::View;
 
 // Where the edges of a task begin, which end at `end`.
@@ -38,4 +42,18 @@ pub fn begins_all(s: &[u8], v: View) -> [u16; 65]
         begins[task] = end as u16;
     }
     begins
+}
+
+// How many edges lead to each task, in a lent array in which none is counted yet.
+pub fn count_all(s: &[u8], v: View, held: &mut [u64; 64])
+    requires { ⌜ ViewOf (now s) v ⌝ }
+    requires { ⌜ now held ≡ replicate 64 0 ⌝ }
+    ensures { λ r. ⌜ Held (workflow-of (now (s .entry)) v) (λ i. false) (now (held .exit)) ⌝ }
+{
+    let mut e = 0;
+    while e < v.edges {
+        let to = lookup::to(s, v, e);
+        held[to] = held[to] + 1;
+        e += 1;
+    }
 }
