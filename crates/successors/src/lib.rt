@@ -2,12 +2,12 @@
 // not placed yet.
 ghost use mathlib.Core.Path.{_≡_};
 ghost use mathlib.Core.Bool.{false};
-ghost use Prim.Native.Nat.{_+_};
-ghost use lib.ListN.{replicate};
+ghost use Prim.Native.Nat.{_+_, _<_};
+ghost use lib.ListN.{length, getD, replicate};
 ghost use Rattle.reader.specs.Meaning.{ViewOf};
 ghost use Rattle.lookup.specs.Lookup.{workflow-of};
 ghost use Rattle.successors.specs.Begins.{Begins, BeginsFrom};
-ghost use Rattle.successors.specs.Held.{Held};
+ghost use Rattle.successors.specs.Held.{Held, released};
 use reader::View;
 
 // Where the edges of a task begin, which end at `end`.
@@ -54,6 +54,23 @@ pub fn count_all(s: &[u8], v: View, held: &mut [u64; 64])
     while e < v.edges {
         let to = lookup::to(s, v, e);
         held[to] = held[to] + 1;
+        e += 1;
+    }
+}
+
+// The task is placed: it is held back from now on, and its successors are no more held back by it.
+pub fn release(s: &[u8], v: View, begins: &[u16; 65], task: usize, held: &mut [u64; 64])
+    requires { ⌜ ViewOf (now s) v ⌝ }
+    requires { ⌜ (task < v .tasks) × (length (now held) ≡ 64) ⌝ }
+    requires { ⌜ BeginsFrom (workflow-of (now s) v) 0 (now begins) ⌝ }
+    ensures { λ r. ⌜ now (held .exit) ≡ released (workflow-of (now (s .entry)) v) (getD (now (begins .entry)) task 0) (getD (now (begins .entry)) (task + 1) 0) task (now (held .entry)) ⌝ }
+{
+    held[task] = 1;
+    let end = begins[task + 1] as usize;
+    let mut e = begins[task] as usize;
+    while e < end {
+        let to = lookup::to(s, v, e);
+        held[to] = numbers::less(held[to], 1);
         e += 1;
     }
 }
