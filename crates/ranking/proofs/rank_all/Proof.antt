@@ -10,26 +10,24 @@ use Rattle.ranking.proofs.rank_all.Statement.{statement}
 use Rattle.ranking.proofs.rank_all.Tie as tie
 
 abbrev Inv-loop : tie.InvT-loop
-Inv-loop s v ranks₀ begins left₀ ranks left = RankedSoFar (workflow-of s v) ranks left
+Inv-loop s v begins ranks₀ left₀ ranks left = RankedSoFar (workflow-of s v) ranks left
 
 abbrev μ-loop : tie.MeasureT-loop
-μ-loop s v ranks₀ begins left₀ ranks left = left
-
-begins-all-requires : tie.Need-begins-all-requires Inv-loop μ-loop
-begins-all-requires c κs = c .before .pre .0
+μ-loop s v begins ranks₀ left₀ ranks left = left
 
 loop-holds : tie.Need-loop-holds Inv-loop μ-loop
-loop-holds c = c .before .before .pre .1
+loop-holds c = c .before .pre .1 .1
 
 rank-pass-requires : tie.Need-rank-pass-requires Inv-loop μ-loop
 rank-pass-requires c κs =
-    (c .before .before .before .before .before .before .pre .0, (c .before .before .before .before .begins-all .ensures, c .before .before .before .loop .inv))
+    let pre = c .before .before .before .before .pre in
+    (pre .0, (pre .1 .0, c .before .before .loop .inv))
 
 returns : tie.Need-returns Inv-loop μ-loop
 returns c =
-    let start = c .before .before .before .before .before .before .before .before .before in
+    let start = c .before .before .before .before .before .before .before in
     let a = start .args in
-    let loop-test = c .before .before .before .before .before .loop-test in
+    let loop-test = c .before .before .before .before .loop-test in
     let if1 = c .before .if1 in
     let turned = c .before .before .rank-pass .ensures in
     ranked-not-all (workflow-of (a .s .now) (a .v)) (view-in-range (a .s .now) (a .v) (start .pre .0)) _ _ (turned .kept)
@@ -44,7 +42,7 @@ loop-again c = c .before .rank-pass .ensures .kept
 
 returns-2 : tie.Need-returns-2 Inv-loop μ-loop
 returns-2 c =
-    let start = c .before .before .before .before in
+    let start = c .before .before .before in
     let a = start .args in
     let loop = c .before .loop in
     let none : loop .left ≡ 0 = omega arith in
@@ -56,7 +54,6 @@ rank-all-spec =
     (tie.spec
     Inv-loop
     μ-loop
-    begins-all-requires
     loop-holds
     rank-pass-requires
     returns
