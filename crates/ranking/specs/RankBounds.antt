@@ -1,18 +1,16 @@
--- What document 01's equation gives in range: at least 1, at most 48,000 more than it is given, and more than it is given for a successor.
+-- What document 01's equation gives in range: at most 48,000 more than it is given.
 use Prim.Native.Nat.{ℕ, zero, suc, _+_, _*_, _≤_, _<_}
-use mathlib.Core.Path.{refl}
 use mathlib.Core.Bool.{cond}
 use native.Mathlib.Nat.{mul-le-mul}
 use native.Mathlib.Omega.{arith}
 use lib.Dec.{eqb}
-use borrow.Author.Tests.{eq-eqb}
 use Rattle.rules.specs.Folds.{sum, largest}
 use Rattle.rules.specs.Workflow.{Workflow}
 use Rattle.rules.specs.Ranks.{rank-by}
 use Rattle.good.specs.Ranges.{InRange}
 use Rattle.laws.specs.Bounds.{rank-added-most}
 use Rattle.laws.specs.Tests.{cond-either}
-use Rattle.laws.specs.Folds.{at-most-sum, at-most-largest, largest-at-most}
+use Rattle.laws.specs.Folds.{largest-at-most}
 
 sum-within : (k : ℕ) (f : ℕ → ℕ) (most : ℕ) → ((i : ℕ) → i < k → f i ≤ most) → sum k f ≤ k * most
 unfolding sum
@@ -35,29 +33,12 @@ module _ (W : Workflow) (range : InRange W) where
   pub transfer-within : (e : ℕ) → W .processors * W .transfer e ≤ 16_000
   transfer-within e = mul-le-mul (range .processors-in .to-high) (range .transfer-in e)
 
-  module _ (f : ℕ → ℕ) where
-    pub rank-within-more : (most : ℕ) → ((k : ℕ) → f k ≤ most) → (i : ℕ) → rank-by W f i ≤ rank-added-most + most
-    unfolding rank-by
-    rank-within-more most each i =
-        let over : largest (W .edges) (over-edge W f i) ≤ 16_000 + most =
-        largest-at-most (W .edges) (over-edge W f i) (16_000 + most)
-        (λ e l.
-        cond-either (λ z. z ≤ 16_000 + most) (eqb (W .from e) i) (W .processors * W .transfer e + f (W .to e)) 0
-        (λ t. omega (arith, transfer-within e, each (W .to e))) (λ t. omega arith)) in
-        omega (arith, minutes-within i)
-
-    pub rank-at-least-one : (i : ℕ) → i < W .tasks → 1 ≤ rank-by W f i
-    unfolding rank-by
-    rank-at-least-one i l =
-        let m : 1 ≤ W .processors = range .processors-in .from-low in
-        omega (arith, at-most-sum (W .processors) (W .minutes i) 0 (omega arith), range .minutes-least i 0 l (omega arith))
-
-    -- The rank falls along an edge.
-    pub rank-falls : (e : ℕ) → e < W .edges → f (W .to e) < rank-by W f (W .from e)
-    unfolding rank-by
-    rank-falls e l =
-        let i = W .from e in
-        let m : 1 ≤ W .processors = range .processors-in .from-low in
-        let over : W .processors * W .transfer e + f (W .to e) ≤ largest (W .edges) (over-edge W f i) =
-        rw (eq-eqb i i refl) at (at-most-largest (W .edges) (over-edge W f i) e l) in
-        omega (arith, at-most-sum (W .processors) (W .minutes i) 0 (omega arith), range .minutes-least i 0 (range .from-below e l) (omega arith))
+  pub rank-within-more : (f : ℕ → ℕ) (most : ℕ) → ((k : ℕ) → f k ≤ most) → (i : ℕ) → rank-by W f i ≤ rank-added-most + most
+  unfolding rank-by
+  rank-within-more f most each i =
+      let over : largest (W .edges) (over-edge W f i) ≤ 16_000 + most =
+      largest-at-most (W .edges) (over-edge W f i) (16_000 + most)
+      (λ e l.
+      cond-either (λ z. z ≤ 16_000 + most) (eqb (W .from e) i) (W .processors * W .transfer e + f (W .to e)) 0
+      (λ t. omega (arith, transfer-within e, each (W .to e))) (λ t. omega arith)) in
+      omega (arith, minutes-within i)

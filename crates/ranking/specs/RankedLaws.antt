@@ -16,16 +16,15 @@ use Rattle.laws.specs.Bounds.{rank-most}
 use Rattle.laws.specs.Tests.{false-unless-true}
 use Rattle.laws.specs.Folds.{sum-same}
 use Rattle.laws.specs.Unmarked.{count-unmarked-at-first, some-unmarked, none-unmarked}
-use Rattle.laws.specs.Cycles.{cyclic-iff}
-use Rattle.laws.specs.Onward.{some-leads-back, falling-none-back}
+use Rattle.laws.specs.Cycles.{cyclic-iff, leads-to-task}
+use Rattle.laws.specs.Onward.{some-leads-back}
 use Rattle.laws.specs.Ranks.{R-unique}
 use Rattle.laws.specs.Stores.{repeated, at}
 use Rattle.laws.specs.Numbers.{below-or-on}
-use Rattle.ranking.specs.Ranked.{has-rank, RankedSoFar, Unknown, HeldUp, AllHeldUp, RankedAs}
-use Rattle.ranking.specs.RankBounds.{rank-falls}
+use Rattle.ranking.specs.Ranked.{has-rank, rank-in, RankedSoFar, Unknown, HeldUp, AllHeldUp, RankedAs}
 
 module _ (W : Workflow) (range : InRange W) where
-  pub known-at-most : (ranks : List ℕ) (left : ℕ) → RankedSoFar W ranks left → (k : ℕ) → at ranks k ≤ rank-most
+  pub known-at-most : (ranks : List ℕ) (left : ℕ) → RankedSoFar W ranks left → (k : ℕ) → at ranks k ≤ 1 + rank-most
   known-at-most ranks left so-far k = omega (arith, so-far .at-most k, range .tasks-in .to-high)
 
   -- At first no rank is known.
@@ -39,30 +38,33 @@ module _ (W : Workflow) (range : InRange W) where
             (sum-same (W .tasks) (λ i. cond (has-rank (replicate 64 0) i) 0 1) (λ i. 1) (λ i l. rw (none i)) ∙ count-unmarked-at-first (W .tasks));
         equation = λ i l known. absurd (omega (arith, none i));
         successors = λ e l known. absurd (omega (arith, none (W .from e)));
+        none-back = λ i known. absurd (omega (arith, none i));
         past = λ i l. none i;
         at-most = λ i. omega (arith, none i);
       }
 
   -- All are known.
   module _ (ranks : List ℕ) (so-far : RankedSoFar W ranks 0) where
-    all-known : (i : ℕ) → i < W .tasks → at ranks i ≡ rank-by W (at ranks) i
-    all-known i l =
-        so-far .equation i l (ltb-true 0 (at ranks i) (none-unmarked (has-rank ranks) (W .tasks) (sym (so-far .count)) i l))
+    all-known : (i : ℕ) → i < W .tasks → 1 ≤ at ranks i
+    all-known i l = ltb-true 0 (at ranks i) (none-unmarked (has-rank ranks) (W .tasks) (sym (so-far .count)) i l)
 
-    none-back : (i : ℕ) → Leads W i i → ⊥
-    none-back =
-        falling-none-back W (at ranks) (λ e l. omega (arith, all-known (W .from e) (range .from-below e l), rank-falls W range (at ranks) e l))
+    all-by : (i : ℕ) → i < W .tasks → rank-in ranks i ≡ rank-by W (rank-in ranks) i
+    all-by i l = omega (arith, so-far .equation i l (all-known i l))
+
+    none-leads-back : (i : ℕ) → Leads W i i → ⊥
+    none-leads-back i back = so-far .none-back i (all-known i (leads-to-task W (range .to-below) back)) back
 
     not-cyclic : cyclic W ≡ false
     not-cyclic =
-        false-unless-true (cyclic W) (λ h. let w = cyclic-iff W (range .to-below) .0 h in none-back (w .0) (w .2))
+        false-unless-true (cyclic W) (λ h. let w = cyclic-iff W (range .to-below) .0 h in none-leads-back (w .0) (w .2))
 
     pub ranked-all : RankedAs W ranks true
     ranked-all =
         record {
           all-unless-cyclic = rw not-cyclic;
           size = so-far .size;
-          ranks-are = λ all. R-unique W (range .to-below) none-back (at ranks) all-known;
+          ranks-are =
+              λ all i l. omega (arith, all-known i l, R-unique W (range .to-below) none-leads-back (rank-in ranks) all-by i l);
           past = so-far .past;
           none-with-cycle = λ not-all. absurd (true≢false not-all);
           at-most = known-at-most ranks 0 so-far;

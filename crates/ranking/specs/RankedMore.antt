@@ -1,5 +1,5 @@
 -- The ranks known stay right as one more becomes known.
-use Prim.Native.Nat.{ℕ, _+_, _*_, _-_, _≤_, _<_}
+use Prim.Native.Nat.{ℕ, suc, _+_, _*_, _-_, _≤_, _<_}
 use mathlib.Core.Path.{_≡_, refl, sym, ap, _∙_, subst}
 use mathlib.Core.Bool.{Bool, true, false, cond, _||_}
 use mathlib.Core.Logic.{_⊎_, inl, inr, ⊎-elim}
@@ -9,6 +9,7 @@ use lib.Dec.{ltb, eqb}
 use lib.ListN.{set, length-set}
 use borrow.Author.Tests.{lt-ltb, eq-eqb, ne-eqb, eqb-true}
 use Rattle.rules.specs.Workflow.{Workflow}
+use Rattle.rules.specs.Cycle.{Leads, edge, along}
 use Rattle.rules.specs.Ranks.{rank-by}
 use Rattle.good.specs.Ranges.{InRange}
 use Rattle.laws.specs.Bounds.{rank-added-most}
@@ -17,18 +18,18 @@ use Rattle.laws.specs.Unmarked.{count-unmarked, and-marked, sum-unmarked-less}
 use Rattle.laws.specs.Ranks.{rank-by-same}
 use Rattle.laws.specs.Stores.{stored, at}
 use Rattle.laws.specs.Turned.{Turned}
-use Rattle.ranking.specs.Ranked.{has-rank, RankedSoFar, Unknown, HeldUp}
-use Rattle.ranking.specs.RankBounds.{rank-within-more, rank-at-least-one}
+use Rattle.ranking.specs.Ranked.{has-rank, rank-in, RankedSoFar, Unknown, HeldUp}
+use Rattle.ranking.specs.RankBounds.{rank-within-more}
 
 module _ (W : Workflow) (range : InRange W) where
   -- One rank more is known.
   module _ (ranks : List ℕ) (left i r : ℕ) (so-far : RankedSoFar W ranks left) (task : i < W .tasks) (unknown : Unknown ranks i)
-      (is : r ≡ rank-by W (at ranks) i) (successors : (e : ℕ) → e < W .edges → W .from e ≡ i → 1 ≤ at ranks (W .to e)) where
+      (is : r ≡ suc (rank-by W (rank-in ranks) i)) (successors : (e : ℕ) → e < W .edges → W .from e ≡ i → 1 ≤ at ranks (W .to e)) where
     at-now : (k : ℕ) → at (set ranks i r) k ≡ cond (eqb i k) r (at ranks k)
     at-now k = stored ranks i r 0 k (omega (arith, so-far .size, range .tasks-in .to-high))
 
     at-least-one : 1 ≤ r
-    at-least-one = rw is (rank-at-least-one W range (at ranks) i task)
+    at-least-one = omega (arith, is)
 
     known-stays : (k : ℕ) → 1 ≤ at ranks k → at (set ranks i r) k ≡ at ranks k
     known-stays k known = at-now k ∙ go (eqb i k) refl
@@ -61,18 +62,22 @@ module _ (W : Workflow) (range : InRange W) where
     pub some-left : 1 ≤ left
     some-left = omega (arith, count-now)
 
-    equation-now : (k : ℕ) → k < W .tasks → 1 ≤ at (set ranks i r) k → at (set ranks i r) k ≡ rank-by W (at (set ranks i r)) k
+    same-by :
+        (k : ℕ) → ((e : ℕ) → e < W .edges → W .from e ≡ k → 1 ≤ at ranks (W .to e))
+        → rank-by W (rank-in ranks) k ≡ rank-by W (rank-in (set ranks i r)) k
+    same-by k known =
+        rank-by-same W (rank-in ranks) (rank-in (set ranks i r)) k
+        (λ e b from. ap (λ z. z - 1) (sym (known-stays (W .to e) (known e b from))))
+
+    equation-now : (k : ℕ) → k < W .tasks → 1 ≤ at (set ranks i r) k → at (set ranks i r) k ≡ suc (rank-by W (rank-in (set ranks i r)) k)
     equation-now k l known =
         ⊎-elim
         (λ (q : i ≡ k).
-        subst (λ x. at (set ranks i r) x ≡ rank-by W (at (set ranks i r)) x) q
-        (at-itself ∙ is
-        ∙ rank-by-same W (at ranks) (at (set ranks i r)) i (λ e b from. sym (known-stays (W .to e) (successors e b from)))))
+        subst (λ x. at (set ranks i r) x ≡ suc (rank-by W (rank-in (set ranks i r)) x)) q
+        (at-itself ∙ is ∙ ap suc (same-by i successors)))
         (λ (same : at (set ranks i r) k ≡ at ranks k).
         let known-before : 1 ≤ at ranks k = omega arith in
-        same ∙ so-far .equation k l known-before
-        ∙ rank-by-same W (at ranks) (at (set ranks i r)) k
-        (λ e b from. sym (known-stays (W .to e) (so-far .successors e b (rw from known-before)))))
+        same ∙ so-far .equation k l known-before ∙ ap suc (same-by k (λ e b from. so-far .successors e b (rw from known-before))))
         (same-at k)
 
     successors-now : (e : ℕ) → e < W .edges → 1 ≤ at (set ranks i r) (W .from e) → 1 ≤ at (set ranks i r) (W .to e)
@@ -83,13 +88,28 @@ module _ (W : Workflow) (range : InRange W) where
         (same-at (W .from e)) in
         omega (arith, known-stays (W .to e) known-before)
 
-    at-most-now : (k : ℕ) → at (set ranks i r) k + rank-added-most * (left - 1) ≤ rank-added-most * W .tasks
+    -- Whatever a ranked task led to was ranked, and so was whatever i leads to. So i, which was not, does not lead back to itself.
+    reached : {j k : ℕ} → Leads W j k → 1 ≤ at ranks j → 1 ≤ at ranks k
+    reached (edge e l) known = so-far .successors e l known
+    reached (along e l p) known = reached p (so-far .successors e l known)
+
+    reached-from-here : {j k : ℕ} → Leads W j k → j ≡ i → 1 ≤ at ranks k
+    reached-from-here (edge e l) here = successors e l here
+    reached-from-here (along e l p) here = reached p (successors e l here)
+
+    none-back-now : (k : ℕ) → 1 ≤ at (set ranks i r) k → Leads W k k → ⊥
+    none-back-now k known back =
+        ⊎-elim (λ (q : i ≡ k). omega (arith, reached-from-here back (sym q), ap (at ranks) q, unknown))
+        (λ (same : at (set ranks i r) k ≡ at ranks k). so-far .none-back k (omega arith) back)
+        (same-at k)
+
+    at-most-now : (k : ℕ) → rank-in (set ranks i r) k + rank-added-most * (left - 1) ≤ rank-added-most * W .tasks
     at-most-now k =
         let some : 1 ≤ left = some-left in
         ⊎-elim
         (λ (q : i ≡ k).
-        let most : rank-by W (at ranks) i ≤ rank-added-most + (rank-added-most * W .tasks - rank-added-most * left) =
-        rank-within-more W range (at ranks) (rank-added-most * W .tasks - rank-added-most * left) (λ j. omega (arith, so-far .at-most j)) i in
+        let most : rank-by W (rank-in ranks) i ≤ rank-added-most + (rank-added-most * W .tasks - rank-added-most * left) =
+        rank-within-more W range (rank-in ranks) (rank-added-most * W .tasks - rank-added-most * left) (λ j. omega (arith, so-far .at-most j)) i in
         omega (arith, ap (at (set ranks i r)) q, at-itself, is, so-far .at-most i))
         (λ (same : at (set ranks i r) k ≡ at ranks k). omega (arith, so-far .at-most k))
         (same-at k)
@@ -104,6 +124,7 @@ module _ (W : Workflow) (range : InRange W) where
           count = omega (arith, count-now);
           equation = equation-now;
           successors = successors-now;
+          none-back = none-back-now;
           past = past-now;
           at-most = at-most-now;
         }

@@ -1,4 +1,5 @@
-// The ranks of a request's tasks, where its edges have no cycle.
+// The ranks of a request's tasks, where its edges have no cycle. A rank may be 0, so an array of them has 1 more than the rank of each task that is
+// ranked, and 0 for one that is not ranked yet.
 ghost use mathlib.Core.Path.{_≡_};
 ghost use Prim.Native.Nat.{ℕ, _+_, _≤_, _<_};
 ghost use lib.ListN.{getD};
@@ -26,10 +27,10 @@ fn all_minutes(s: &[u8], v: View, task: usize) -> u64
     minutes
 }
 
-// The rank of a task once its successors have theirs; 0 while one has not.
+// 1 more than the rank of a task once its successors have theirs; 0 while one has not.
 fn rank_of(s: &[u8], v: View, ranks: &[u64; 64], task: usize, begin: usize, end: usize) -> u64
     requires { ⌜ ViewOf (now s) v ⌝ }
-    requires { ⌜ (task < v .tasks) × ((k : ℕ) → getD (now ranks) k 0 ≤ rank-most) ⌝ }
+    requires { ⌜ (task < v .tasks) × ((k : ℕ) → getD (now ranks) k 0 ≤ 1 + rank-most) ⌝ }
     requires { ⌜ Begins (workflow-of (now s) v) task begin × Begins (workflow-of (now s) v) (task + 1) end ⌝ }
     ensures { λ r. ⌜ NextRank (workflow-of (now (s .entry)) v) (now (ranks .entry)) task r ⌝ }
 {
@@ -41,10 +42,10 @@ fn rank_of(s: &[u8], v: View, ranks: &[u64; 64], task: usize, begin: usize, end:
         if onward == 0 {
             return 0;
         }
-        most = numbers::larger(most, processors * lookup::transfer(s, v, e) + onward);
+        most = numbers::larger(most, processors * lookup::transfer(s, v, e) + (onward - 1));
         e += 1;
     }
-    all_minutes(s, v, task) + most
+    all_minutes(s, v, task) + most + 1
 }
 
 // Ranks a task, if it can be. Answers how many are left.
@@ -91,8 +92,8 @@ fn rank_pass(s: &[u8], v: View, begins: &[u16; 65], ranks: &mut [u64; 64], left:
     now_left
 }
 
-// Ranks all tasks in a lent array in which none is ranked yet, each once its successors have theirs. Answers whether all are ranked, which they are without a
-// cycle; with one the array is 0 throughout.
+// Ranks all tasks in a lent array in which none is ranked yet, each once its successors have theirs: the array has 1 more than each rank. Answers
+// whether all are ranked, which they are without a cycle; with one the array is 0 throughout.
 pub fn rank_all(s: &[u8], v: View, begins: &[u16; 65], ranks: &mut [u64; 64]) -> bool
     requires { ⌜ ViewOf (now s) v ⌝ }
     requires { ⌜ BeginsFrom (workflow-of (now s) v) 0 (now begins) ⌝ }

@@ -75,6 +75,9 @@ mul-larger c =
     let range = view-in-range (a .s .now) (a .v) (pre .0) in
     omega (arith, mul-le-mul (range .processors-in .to-high) (transfer .ensures .1))
 
+sub-larger : tie.Need-sub-larger Inv-loop μ-loop
+sub-larger c = omega arith
+
 add-larger : tie.Need-add-larger Inv-loop μ-loop
 unfolding workflow
 add-larger c =
@@ -108,7 +111,7 @@ loop-again c =
     let W = workflow-of (a .s .now) (a .v) in
     let range = view-in-range (a .s .now) (a .v) (pre .0) in
     let successor = at (a .ranks .now) (to .result) in
-    let next = larger .ensures ∙ ap (λ (t : ℕ). max (loop .most) (a .v .processors * t + successor)) (transfer .ensures .0) in
+    let next = larger .ensures ∙ ap (λ (t : ℕ). max (loop .most) (a .v .processors * t + (successor - 1))) (transfer .ensures .0) in
     passed-more W range (a .ranks .now) (a .task) (a .begin) (a .end) (pre .1 .1 .0) (pre .1 .1 .1) (loop .e) (loop-test .taken) (loop .inv)
     (ap (at (a .ranks .now)) (to .ensures .0)) (omega (arith, if1 .left))
     (pre .1 .0 .1 (to .result)) next
@@ -116,8 +119,11 @@ loop-again c =
 all-minutes-requires : tie.Need-all-minutes-requires Inv-loop μ-loop
 all-minutes-requires c κs = (c .before .before .before .pre .0, c .before .before .before .pre .1 .0 .0)
 
+add-result-2 : tie.Need-add-result-2 Inv-loop μ-loop
+add-result-2 c = omega (arith, c .before .before .loop .inv .at-most, c .all-minutes .ensures .1)
+
 add-result : tie.Need-add-result Inv-loop μ-loop
-add-result c = omega (arith, c .before .before .loop .inv .at-most, c .all-minutes .ensures .1)
+add-result c = omega (arith, add-result-2 c)
 
 returns-2 : tie.Need-returns-2 Inv-loop μ-loop
 unfolding workflow
@@ -129,8 +135,8 @@ returns-2 c =
     let W = workflow-of (a .s .now) (a .v) in
     let range = view-in-range (a .s .now) (a .v) (pre .0) in
     let passed : loop .e ≡ a .end = omega (arith, loop .inv .to-end) in
-    passed-all W range (a .ranks .now) (a .task) (a .begin) (a .end) (pre .1 .1 .0) (pre .1 .1 .1) (pre .1 .0 .0) (rw passed at (loop .inv))
-    (ap (λ (x : ℕ). x + loop .most) (all-minutes .ensures .0))
+    passed-all W range (a .ranks .now) (a .task) (a .begin) (a .end) (pre .1 .1 .0) (pre .1 .1 .1) (rw passed at (loop .inv))
+    (ap (λ (x : ℕ). x + loop .most + 1) (all-minutes .ensures .0))
 
 pub rank-of-spec : {M : Type 1} → statement M
 rank-of-spec =
@@ -145,6 +151,7 @@ rank-of-spec =
     returns
     transfer-requires
     mul-larger
+    sub-larger
     add-larger
     larger-requires
     add-e
@@ -152,4 +159,5 @@ rank-of-spec =
     loop-again
     all-minutes-requires
     add-result
+    add-result-2
     returns-2)
