@@ -8,6 +8,7 @@ use lib.Dec.{eqb}
 use Rattle.rules.specs.Orders as orders
 use Rattle.rules.specs.Orders.{tie, higher, first}
 use Rattle.rules.specs.Workflow.{Interval, Workflow, busy-with}
+use Rattle.rules.specs.Cycle.{Leads, edge, along}
 use Rattle.rules.specs.Ranks.{cost, lowest-cost, rank-by, rank-within, R, waits, may-be-next, next-task}
 use Rattle.rules.specs.Start.{arrival, arrived, ready}
 use Rattle.rules.specs.Rows.{Placed, is-placed, taken-up, busy}
@@ -43,6 +44,15 @@ rank-begun f clock W (suc most) = ap (rank-by W) (rank-begun f clock W most)
 pub R-begun : (f : ℕ → List Interval) (clock : ℕ) (W : Workflow) → R (begun f clock W) ≡ R W
 unfolding R begun
 R-begun f clock W = rank-begun f clock W (W .tasks)
+
+-- Nor do paths.
+leads-begun : (f : ℕ → List Interval) (clock : ℕ) (W : Workflow) {i k : ℕ} → Leads (begun f clock W) i k → Leads W i k
+unfolding begun
+leads-begun f clock W (edge e l) = edge e l
+leads-begun f clock W (along e l p) = along e l (leads-begun f clock W p)
+
+pub acyclic-begun : (f : ℕ → List Interval) (clock : ℕ) (W : Workflow) → ((i : ℕ) → Leads W i i → ⊥) → (i : ℕ) → Leads (begun f clock W) i i → ⊥
+acyclic-begun f clock W acyclic i p = acyclic i (leads-begun f clock W p)
 
 -- Where each processor is busy at first with what gives the same starts, the tasks are placed alike.
 module _ {M : Method} (among : ChoosesAmong M) (W : Workflow) (some : 1 ≤ W .processors) (clock : ℕ) (f g : ℕ → List Interval)

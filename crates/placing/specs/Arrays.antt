@@ -1,16 +1,14 @@
 -- The arrays at first, and with one more row: a store keeps what each holds.
 use Prim.Native.Nat.{ℕ, _<_}
 use mathlib.Core.Path.{_≡_, refl, sym, _∙_}
-use mathlib.Core.Bool.{Bool, true, false, cond, _||_}
 use mathlib.Core.List.{List, [], _∷_}
 use native.Mathlib.Omega.{arith}
 use lib.Dec.{eqb}
 use lib.ListN.{set, length-set, replicate}
-use Rattle.rules.specs.Rows.{Row, Placed, row-of, is-placed}
+use Rattle.rules.specs.Rows.{Row, Placed, row-of}
 use Rattle.laws.specs.Tests.{cond-mapped}
 use Rattle.laws.specs.Stores.{stored-holds, repeated}
 use Rattle.placing.specs.Placed.{Column, Columns}
-use Rattle.placing.specs.Kept.{Marks}
 
 -- At first no task has a row.
 column-first : (field : Row → ℕ) → ((i : ℕ) → field (row-of [] i) ≡ 0) → Column field [] (replicate 64 0)
@@ -25,10 +23,6 @@ columns-first =
       finishes-hold = column-first (λ r. r .finish) (λ i. refl);
       costs-hold = column-first (λ r. r .cost) (λ i. refl);
     }
-
-pub marks-first : Marks [] (replicate 64 false)
-unfolding is-placed
-marks-first = record { size = refl; holds = repeated 64 false }
 
 module _ (p : Placed) (rows : List Placed) where
   column-more : (field : Row → ℕ) {xs : List ℕ} → Column field rows xs → p .task < 64 → Column field (p ∷ rows) (set xs (p .task) (field (p .row)))
@@ -52,15 +46,3 @@ module _ (p : Placed) (rows : List Placed) where
         finishes-hold = column-more (λ r. r .finish) (held .finishes-hold) l;
         costs-hold = column-more (λ r. r .cost) (held .costs-hold) l;
       }
-
-  pub marks-more : {placed : List Bool} → Marks rows placed → p .task < 64 → Marks (p ∷ rows) (set placed (p .task) true)
-  unfolding is-placed
-  marks-more {placed} held l =
-      record {
-        size = length-set placed (p .task) true ∙ held .size;
-        holds = stored-holds placed _ _ (p .task) true false (omega (arith, held .size)) (held .holds) (λ i. go (eqb (p .task) i) (is-placed rows i));
-      }
-    where
-      go : (s t : Bool) → cond s true t ≡ (s || t)
-      go true t = refl
-      go false t = refl

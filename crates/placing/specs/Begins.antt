@@ -1,9 +1,11 @@
 -- The placing begins with what it is handed: a workflow with these intervals and this clock is in range, and where they are those that a workflow begins
 -- with, its rows are that workflow's.
-use Prim.Native.Nat.{ℕ, _-_, _≤_}
-use mathlib.Core.Path.{_≡_, sym, ap, subst, _∙_}
+use Prim.Native.Nat.{ℕ, zero, suc, _-_, _≤_}
+use mathlib.Core.Path.{_≡_, refl, sym, ap, subst, _∙_}
+use mathlib.Core.Bool.{Bool}
 use mathlib.Core.List.{List}
 use native.Mathlib.Omega.{arith}
+use lib.ListN.{set}
 use Rattle.rules.specs.Workflow.{Workflow}
 use Rattle.rules.specs.Rows.{spent, length-of}
 use Rattle.good.specs.Ranges.{InRange}
@@ -13,6 +15,8 @@ use Rattle.laws.specs.Method.{HBCS-chooses-among}
 use Rattle.busy.specs.declared.Processors.{Processors}
 use Rattle.busy.specs.Kept.{kept-by, InOrder, EndBy, Keeps}
 use Rattle.busy.specs.KeptLaws.{kept-below, kept-has-minutes}
+use Rattle.successors.specs.Begins.{BeginsFrom}
+use Rattle.successors.specs.Held.{waited-for, held-back, Held, counted-down, released}
 use Rattle.placing.specs.declared.Placing.{Placing}
 use Rattle.placing.specs.Placed.{RanksOf, Columns, all-rows, PlacedAs}
 
@@ -34,7 +38,6 @@ module _ {W : Workflow} (range : InRange W) {p : Processors} where
         first-end-in = λ j v m. ended j (kept-below order m) v m;
         clock-in = clock-in;
         minutes-most = range .minutes-most;
-        minutes-least = range .minutes-least;
         from-below = range .from-below;
         to-below = range .to-below;
         unequal = range .unequal;
@@ -63,8 +66,31 @@ module _ {W : Workflow} (range : InRange W) {p : Processors} where
           columns = subst (λ rows. Columns rows sits starts ends costs) same-rows (placed .columns);
         }
 
--- Ranks are the same however it begins.
-pub ranks-begun : {W : Workflow} (p : Processors) (clock : ℕ) {ranks : List ℕ} → RanksOf W ranks → RanksOf (begun (kept-by p) clock W) ranks
-unfolding begun
-ranks-begun {W} p clock ranks-of =
-    record { are = λ i l. ranks-of .are i l ∙ ap (λ R. R i) (sym (R-begun (kept-by p) clock W)); at-most = ranks-of .at-most }
+-- Ranks are the same however it begins, and so is what holds each task back.
+module _ (W : Workflow) (p : Processors) (clock : ℕ) where
+  pub ranks-begun : {ranks : List ℕ} → RanksOf W ranks → RanksOf (begun (kept-by p) clock W) ranks
+  unfolding begun
+  ranks-begun ranks-of = record { are = λ i l. ranks-of .are i l ∙ ap (λ R. suc (R i)) (sym (R-begun (kept-by p) clock W)) }
+
+  pub held-begun : {placed : ℕ → Bool} {held : List ℕ} → Held W placed held → Held (begun (kept-by p) clock W) placed held
+  unfolding begun held-back waited-for
+  held-begun held = record { size = held .size; holds = held .holds }
+
+  counted-down-begun : (begin : ℕ) (held : List ℕ) (k : ℕ) → counted-down (begun (kept-by p) clock W) begin held k ≡ counted-down W begin held k
+  unfolding begun counted-down
+  counted-down-begun begin held zero = refl
+  counted-down-begun begin held (suc k) = rw (counted-down-begun begin held k) refl
+
+  pub released-begun : (begin end task : ℕ) (held : List ℕ) → released W begin end task held ≡ released (begun (kept-by p) clock W) begin end task held
+  unfolding released
+  released-begun begin end task held = sym (counted-down-begun begin (set held task 1) (end - begin))
+
+  pub begins-begun : {begins : List ℕ} → BeginsFrom W 0 begins → BeginsFrom (begun (kept-by p) clock W) 0 begins
+  unfolding begun
+  begins-begun begins =
+      record {
+        size = begins .size;
+        begin = λ task l m.
+            let there = begins .begin task l m in
+            record { within = there .within; before = there .before; onward = there .onward };
+      }

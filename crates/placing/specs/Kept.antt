@@ -1,9 +1,8 @@
 -- What the code keeps once k tasks are placed: the rows so far, in arrays, and what these come to.
-use Prim.Native.Nat.{ℕ, _+_, _*_, _-_, _≤_}
+use Prim.Native.Nat.{ℕ, _+_, _*_, _-_, _≤_, _<_}
 use mathlib.Core.Path.{_≡_}
-use mathlib.Core.Bool.{Bool, false}
+use mathlib.Core.Bool.{true}
 use mathlib.Core.List.{List}
-use lib.ListN.{length, getD}
 use Rattle.rules.specs.Workflow.{Workflow}
 use Rattle.rules.specs.Ranks.{lowest-cost}
 use Rattle.rules.specs.Rows as rules
@@ -12,13 +11,9 @@ use Rattle.laws.specs.Bounds.{first-most, added-most, cost-most}
 use Rattle.laws.specs.Unmarked.{sum-unmarked, count-unmarked}
 use Rattle.laws.specs.Stores.{at}
 use Rattle.busy.specs.Kept.{outset-most, Keeps}
+use Rattle.successors.specs.Held.{Held}
 use Rattle.placing.specs.Placed.{Columns}
 use Rattle.placing.specs.State.{State}
-
--- The array tells the tasks that have a row.
-pub record Marks (rows : List Placed) (placed : List Bool) : Type 0 where
-  pub size : length placed ≡ 64
-  pub holds : (i : ℕ) → getD placed i false ≡ is-placed rows i
 
 -- How many intervals the processors are busy with.
 abbrev pub intervals : State → ℕ
@@ -27,7 +22,9 @@ intervals state = at (state .processors .first) 16
 -- The rows of k tasks, and what the code keeps of them.
 pub record Kept (W : Workflow) (rows : List Placed) (k : ℕ) (state : State) : Type 0 where
   pub columns : Columns rows (state .sits) (state .starts) (state .ends) (state .costs)
-  pub marks : Marks rows (state .placed)
+  -- What holds each task back; and a task that has a row came after its predecessors.
+  pub held : Held W (is-placed rows) (state .held)
+  pub closed : (e : ℕ) → e < W .edges → is-placed rows (W .to e) ≡ true → is-placed rows (W .from e) ≡ true
   -- What the processors are busy with: so much at the outset, and k rows.
   pub processors : Keeps (busy W rows) (intervals state) (state .processors)
   pub few-intervals : intervals state ≤ outset-most + k

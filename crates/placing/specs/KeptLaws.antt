@@ -1,12 +1,14 @@
 -- What is kept at first, and what a turn reads off it: numbers in range, the next task, and RCB.
-use Prim.Native.Nat.{ℕ, _-_, _≤_, _<_}
-use mathlib.Core.Path.{_≡_, refl, ap, _∙_}
-use mathlib.Core.Bool.{false, not}
+use Prim.Native.Nat.{ℕ, suc, _-_, _≤_, _<_}
+use mathlib.Core.Path.{_≡_, refl, sym, ap, ap₂, _∙_}
+use mathlib.Core.Bool.{false}
 use mathlib.Core.List.{List, []}
 use native.Mathlib.Omega.{arith}
+use lib.Dec.{ltb, eqb, leb·suc-suc}
 use Rattle.rules.specs.Orders.{first}
 use Rattle.rules.specs.Workflow.{Workflow}
-use Rattle.rules.specs.Ranks.{R, lowest-cost, cheapest-total, next-task}
+use Rattle.rules.specs.Cycle.{Leads}
+use Rattle.rules.specs.Ranks.{R, lowest-cost, cheapest-total, may-be-next, next-task}
 use Rattle.rules.specs.Rows.{Placed, is-placed, busy, spent, length-of}
 use Rattle.rules.specs.Placing.{RCB}
 use Rattle.good.specs.Ranges.{InRange}
@@ -14,32 +16,34 @@ use Rattle.laws.specs.Bounds.{first-most, finish-most, ready-most, cost-most, t
 use Rattle.laws.specs.LatestFinish.{finish-in-length, busy-in-length}
 use Rattle.laws.specs.Tests.{cond-either}
 use Rattle.laws.specs.Folds.{sum-at-most-each}
-use Rattle.laws.specs.Orders.{higher-same, among-same}
+use Rattle.laws.specs.Orders.{higher-tie, among-same}
 use Rattle.laws.specs.First.{first-same}
 use Rattle.laws.specs.Unmarked.{sum-unmarked-less, count-unmarked-at-first}
-use Rattle.laws.specs.NextTask.{next-task-free}
+use Rattle.laws.specs.NextTask.{MayBeNext, next-task-may}
 use Rattle.laws.specs.Stores.{at}
 use Rattle.laws.specs.Filled.{AtMost}
 use Rattle.busy.specs.declared.Processors.{Processors}
 use Rattle.busy.specs.Kept.{outset-most, Keeps, EndBy}
 use Rattle.busy.specs.KeepsLaws.{keeps-end-by}
 use Rattle.costs.specs.CostLaws.{lowest-cost-at-most}
+use Rattle.successors.specs.Held.{Held}
+use Rattle.successors.specs.HeldLaws.{held-back-next}
 use Rattle.order.specs.Standing.{placing-order}
 use Rattle.placing.specs.Placed.{RanksOf, Columns}
 use Rattle.placing.specs.State.{State, without-rows}
 use Rattle.placing.specs.Kept.{Kept}
-use Rattle.placing.specs.Arrays.{marks-first}
 
 -- At first no task is placed.
 pub kept-first :
-    (W : Workflow) {sits starts ends costs : List ℕ} {processors : Processors} {rb rcb : ℕ} → Columns [] sits starts ends costs
+    (W : Workflow) {sits starts ends costs held : List ℕ} {processors : Processors} {rb rcb : ℕ} → Columns [] sits starts ends costs → Held W (λ i. false) held
     → Keeps (W .busy-at-first) (at (processors .first) 16) processors → at (processors .first) 16 ≤ outset-most → rb ≡ W .budget → rcb ≡ cheapest-total W
-    → Kept W [] 0 (without-rows sits starts ends costs processors rb rcb)
+    → Kept W [] 0 (without-rows sits starts ends costs held processors rb rcb)
 unfolding is-placed busy spent length-of cheapest-total
-kept-first W none keeps few budget cheapest =
+kept-first W none nothing-placed keeps few budget cheapest =
     record {
       columns = none;
-      marks = marks-first;
+      held = nothing-placed;
+      closed = λ e l h. h;
       processors = keeps;
       few-intervals = omega arith;
       rb-is = omega arith;
@@ -74,23 +78,26 @@ module _ {W : Workflow} (range : InRange W) {rows : List Placed} {k : ℕ} {stat
       cond-either (λ x. x ≤ cost-most) (is-placed rows i) 0 (lowest-cost W i) (λ _. omega arith) (λ _. lowest-cost-at-most W range i)) in
       omega (arith, kept .rcb-is, each, range .tasks-in)
 
-  -- The next task by ranks and marks in arrays is the rules'.
-  pub next-kept : {ranks : List ℕ} {i : ℕ} → RanksOf W ranks → i ≡ first (W .tasks) (placing-order ranks (state .placed))
+  -- The next task by ranks and by what holds tasks back, in arrays, is the rules'.
+  pub next-kept : {ranks : List ℕ} {i : ℕ} → RanksOf W ranks → i ≡ first (W .tasks) (placing-order ranks (state .held))
       → i ≡ next-task W (is-placed rows)
   unfolding next-task
-  next-kept ranks-of e =
+  next-kept {ranks} ranks-of e =
       e
       ∙ first-same (W .tasks) _ _ (λ x y l m.
-      among-same _ _ _ _ x y (ap not (kept .marks .holds x)) (ap not (kept .marks .holds y))
-      (higher-same _ (R W) _ _ x y (ranks-of .are x l) (ranks-of .are y m) refl))
+      among-same _ _ _ _ x y (nothing-holds x) (nothing-holds y)
+      (higher-tie (at ranks) x y ∙ ap₂ ltb (ranks-of .are y m) (ranks-of .are x l) ∙ leb·suc-suc (suc (R W y)) (R W x) ∙ sym (higher-tie (R W) x y)))
+    where
+      nothing-holds : (x : ℕ) → eqb (at (state .held) x) 0 ≡ may-be-next W (is-placed rows) x
+      nothing-holds x = ap (λ h. eqb h 0) (kept .held .holds x) ∙ held-back-next W (is-placed rows) x
 
-  module _ {i : ℕ} (next : i ≡ next-task W (is-placed rows)) where
-    pub next-free : (i < W .tasks) × (is-placed rows i ≡ false)
-    next-free = rw next (next-task-free W (is-placed rows) (omega (arith, kept .count)))
+  module _ (acyclic : (i : ℕ) → Leads W i i → ⊥) {i : ℕ} (next : i ≡ next-task W (is-placed rows)) where
+    pub next-may : (i < W .tasks) × MayBeNext W (is-placed rows) i
+    next-may = rw next (next-task-may W (is-placed rows) (range .from-below) acyclic (omega (arith, kept .count)))
 
     -- RCB: its lowest cost less.
     pub rcb-less : {low : ℕ} → low ≡ lowest-cost W i → (low ≤ state .rcb) × (state .rcb - low ≡ RCB W rows i)
     unfolding RCB
     rcb-less e =
-        let less = sum-unmarked-less (is-placed rows) (lowest-cost W) (W .tasks) i (next-free .0) (next-free .1) in
+        let less = sum-unmarked-less (is-placed rows) (lowest-cost W) (W .tasks) i (next-may .0) (next-may .1 .left) in
         (omega (arith, kept .rcb-is), omega (arith, kept .rcb-is))

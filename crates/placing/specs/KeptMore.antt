@@ -1,58 +1,74 @@
 -- One turn: the next task is placed, and what is kept has its row.
 use Prim.Native.Nat.{ℕ, _+_, _≤_, _<_, max}
-use mathlib.Core.Path.{_≡_, refl, ap, _∙_}
+use mathlib.Core.Path.{_≡_, refl, sym, ap, _∙_}
 use mathlib.Core.List.{List, _∷_}
 use native.Mathlib.Numerals.{add-one}
 use native.Mathlib.Omega.{arith}
+use mathlib.Core.Logic.{⊎-elim}
+use lib.Dec.{ltb, eqb}
+use borrow.Author.Tests.{eqb-true}
 use Rattle.rules.specs.Workflow.{Workflow}
+use Rattle.rules.specs.Cycle.{Leads}
 use Rattle.rules.specs.Ranks.{next-task}
 use Rattle.rules.specs.Start.{arrived}
 use Rattle.rules.specs.Rows.{Row, Placed, is-placed, busy, spent, length-of}
 use Rattle.rules.specs.Method.{Method}
-use Rattle.rules.specs.Placing.{start-of, finish-of, RCB, question, row-on, place-next, place}
+use Rattle.rules.specs.Placing.{start-of, finish-of, RCB, question, row-on, place-task, place-next, place}
 use Rattle.good.specs.Ranges.{InRange}
 use Rattle.laws.specs.Bounds.{finish-most}
 use Rattle.laws.specs.LatestFinish.{finish-in-reach, length-in-reach}
+use Rattle.laws.specs.Tests.{cond-either, or-either, or-right}
 use Rattle.laws.specs.Unmarked.{sum-unmarked-less}
 use Rattle.laws.specs.Method.{ChoosesAmong}
 use Rattle.laws.specs.Stores.{at}
 use Rattle.busy.specs.declared.Processors.{Processors}
 use Rattle.busy.specs.Kept.{kept-by}
-use Rattle.busy.specs.Put.{WithInterval}
-use Rattle.busy.specs.KeepsLaws.{keeps-more}
+use Rattle.busy.specs.Put.{put-in}
+use Rattle.busy.specs.KeepsLaws.{keeps-put}
+use Rattle.successors.specs.Begins.{BeginsFrom}
+use Rattle.successors.specs.Held.{released}
+use Rattle.successors.specs.HeldLaws.{held-released}
 use Rattle.ready.specs.Ready.{FromClock}
 use Rattle.hand.specs.Hand.{row-by}
 use Rattle.hand.specs.declared.Row as code
 use Rattle.costs.specs.CostLaws.{cost-at-most}
 use Rattle.placing.specs.State.{State, meant-row, with-row}
-use Rattle.placing.specs.Kept.{intervals, Kept}
-use Rattle.placing.specs.Arrays.{columns-more, marks-more}
+use Rattle.placing.specs.Kept.{Kept}
+use Rattle.placing.specs.Arrays.{columns-more}
 use Rattle.placing.specs.KeptHand.{takes, row-kept}
-use Rattle.placing.specs.KeptLaws.{next-free}
+use Rattle.placing.specs.KeptLaws.{next-may}
 
--- The row of a task is put among the intervals that are kept of the processors.
-abbrev pub PutIn : (intervals : ℕ) → Processors → Row → Processors → Type 0
-PutIn intervals before row after = WithInterval intervals (row .processor) (row .start) (row .finish) before after
+-- The row of a task is put among the intervals that are kept of the processors, unless it takes no minutes.
+abbrev pub with-taken-up : Row → Processors → Processors
+with-taken-up row before = put-in (row .processor) (row .start) (row .finish) before
 
 -- On any processor.
 kept-on :
-    {W : Workflow} {rows : List Placed} {k i to-come j : ℕ} {state : State} {after : Processors} → InRange W → Kept W rows k state → k < W .tasks
-    → i ≡ next-task W (is-placed rows) → to-come ≡ RCB W rows i → j < W .processors → PutIn (intervals state) (state .processors) (row-on W rows i j) after
-    → Kept W (record { task = i; row = row-on W rows i j } ∷ rows) (k + 1) (with-row state i (row-on W rows i j) to-come after)
+    {W : Workflow} {rows : List Placed} {k i to-come j : ℕ} {state : State} {begins : List ℕ} → InRange W → ((i : ℕ) → Leads W i i → ⊥)
+    → BeginsFrom W 0 begins → Kept W rows k state → k < W .tasks → i ≡ next-task W (is-placed rows) → to-come ≡ RCB W rows i → j < W .processors
+    → Kept W (record { task = i; row = row-on W rows i j } ∷ rows) (k + 1)
+    (with-row state i (row-on W rows i j) to-come (released W (at begins i) (at begins (i + 1)) i (state .held))
+    (with-taken-up (row-on W rows i j) (state .processors)))
 unfolding busy spent length-of is-placed RCB row-on start-of finish-of
-kept-on {W} {rows} {k} {i} {j = j} range kept more next to-come-is below put =
+kept-on {W} {rows} {k} {i} {j = j} {state = state} {begins = begins} range acyclic begins-are kept more next to-come-is below =
     let new : Placed = record { task = i; row = row-on W rows i j } in
-    let (task, free) = next-free range kept more next in
+    let (task, may) = next-may range kept more acyclic next in
     let in-array : i < 64 = omega (arith, range .tasks-in) in
     let in-reach : j < 16 = omega (arith, range .processors-in) in
-    let some : new .row .start < new .row .finish = omega (arith, range .minutes-least i j task below) in
-    let keeps = keeps-more (kept .processors) in-reach (omega (arith, kept .few-intervals, range .tasks-in)) some put in
-    let fewer = sum-unmarked-less (is-placed rows) (λ t. 1) (W .tasks) i task free in
+    let keeps = keeps-put (kept .processors) in-reach (omega (arith, kept .few-intervals, range .tasks-in)) (new .row .start) (new .row .finish) in
+    let fewer = sum-unmarked-less (is-placed rows) (λ t. 1) (W .tasks) i task (may .left) in
     record {
       columns = columns-more new rows (kept .columns) in-array;
-      marks = marks-more new rows (kept .marks) in-array;
+      held =
+          held-released W range (is-placed rows) (at begins i) (at begins (i + 1)) i (begins-are .begin i (omega arith) (omega arith))
+          (begins-are .begin (i + 1) (omega arith) (omega arith)) task (may .left) (kept .closed) (state .held) (kept .held);
+      closed = λ e l h.
+          or-right (eqb i (W .from e)) (is-placed rows (W .from e))
+          (⊎-elim (λ to. may .predecessors-placed e l (sym (eqb-true i (W .to e) to))) (kept .closed e l)
+          (or-either (eqb i (W .to e)) (is-placed rows (W .to e)) h));
       processors = record { in-order = keeps .in-order; in-all = refl; holds = keeps .holds };
-      few-intervals = omega (arith, keeps .in-all, kept .few-intervals);
+      few-intervals =
+          omega (arith, keeps .in-all, kept .few-intervals, cond-either (λ x. x ≤ 1) (ltb (new .row .start) (new .row .finish)) 1 0 (λ _. omega arith) (λ _. omega arith));
       rb-is = omega (arith, kept .rb-is);
       spent-is = ap (λ x. x + new .row .cost) (kept .spent-is);
       rcb-is = to-come-is;
@@ -92,10 +108,12 @@ module _ {M : Method} (among : ChoosesAmong M) {W : Workflow} (range : InRange W
       )
 
   placed-more : place M W (k + 1) ≡ record { task = i; row = row-on W (place M W k) i taken } ∷ place M W k
-  unfolding place place-next
+  unfolding place place-next place-task
   placed-more = ap (place M W) (add-one k) ∙ rw (← next)
 
   pub kept-more :
-      {after : Processors} → PutIn (intervals state) (state .processors) (meant-row r) after
-      → Kept W (place M W (k + 1)) (k + 1) (with-row state i (meant-row r) to-come after)
-  kept-more put = rw (placed-more, row-is) (kept-on range kept more next to-come-is (takes among range (place M W k) i) (rw row-is at put))
+      {begins held : List ℕ} {after : Processors} → ((i : ℕ) → Leads W i i → ⊥) → BeginsFrom W 0 begins
+      → held ≡ released W (at begins i) (at begins (i + 1)) i (state .held) → after ≡ with-taken-up (meant-row r) (state .processors)
+      → Kept W (place M W (k + 1)) (k + 1) (with-row state i (meant-row r) to-come held after)
+  kept-more acyclic begins-are held-is after-is =
+      rw (placed-more, held-is, after-is, row-is) (kept-on range acyclic begins-are kept more next to-come-is (takes among range (place M W k) i))

@@ -1,5 +1,5 @@
 -- What the code's placing says, in the rules' words.
-use Prim.Native.Nat.{ℕ, _-_, _<_}
+use Prim.Native.Nat.{ℕ, suc, _-_, _<_}
 use mathlib.Core.Path.{_≡_}
 use mathlib.Core.List.{List}
 use lib.ListN.{length}
@@ -8,15 +8,12 @@ use Rattle.rules.specs.Ranks.{R}
 use Rattle.rules.specs.Rows.{Row, Placed, row-of, spent, length-of}
 use Rattle.rules.specs.Method.{HBCS}
 use Rattle.rules.specs.Placing.{place}
-use Rattle.laws.specs.Bounds.{rank-most}
 use Rattle.laws.specs.Stores.{at}
-use Rattle.laws.specs.Filled.{AtMost}
 use Rattle.placing.specs.declared.Placing.{Placing}
 
--- The array holds the ranks of all tasks.
+-- The array holds the ranks of all tasks, each 1 more.
 pub record RanksOf (W : Workflow) (ranks : List ℕ) : Type 0 where
-  pub are : (i : ℕ) → i < W .tasks → at ranks i ≡ R W i
-  pub at-most : AtMost rank-most ranks
+  pub are : (i : ℕ) → i < W .tasks → at ranks i ≡ suc (R W i)
 
 -- An array of 64 that holds one field of each task's row, and 0 for a task that has none.
 pub record Column (field : Row → ℕ) (rows : List Placed) (xs : List ℕ) : Type 0 where

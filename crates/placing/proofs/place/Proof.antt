@@ -1,9 +1,9 @@
 -- After each turn the rows so far are the rules', and what is kept is what they come to.
 use Prim.Native.Nat.{ℕ, _+_, _-_, _≤_, _<_}
 use mathlib.Core.Path.{_≡_, refl, ap, _∙_}
-use mathlib.Core.Bool.{Bool}
 use mathlib.Core.List.{List}
 use Rattle.rules.specs.Workflow.{Workflow, workflow}
+use Rattle.rules.specs.Cycle.{Leads}
 use Rattle.rules.specs.Ranks.{cost, lowest-cost, cheapest-total, next-task}
 use Rattle.rules.specs.Start.{arrival, arrived}
 use Rattle.rules.specs.Rows.{Placed, is-placed}
@@ -13,38 +13,40 @@ use Rattle.good.specs.Ranges.{InRange}
 use Rattle.lookup.specs.Lookup.{workflow-of}
 use Rattle.lookup.specs.Views.{view-in-range}
 use Rattle.laws.specs.Bounds.{finish-most}
-use Rattle.laws.specs.Begun.{begun}
+use Rattle.laws.specs.Begun.{begun, acyclic-begun}
+use Rattle.laws.specs.Cycles.{none-leads-back}
 use Rattle.laws.specs.Stores.{at}
 use Rattle.laws.specs.Method.{HBCS-chooses-among}
 use Rattle.links.specs.LinksLaws.{linked-first}
+use Rattle.successors.specs.Begins.{BeginsFrom}
+use Rattle.successors.specs.Held.{released}
 use Rattle.costs.specs.CostLaws.{lowest-filled}
 use Rattle.busy.specs.declared.Processors.{Processors}
-use Rattle.busy.specs.Kept.{room-most, kept-by, InOrder}
-use Rattle.busy.specs.KeptLaws.{first-at-most}
-use Rattle.busy.specs.PlaceLaws.{place-in-reach}
+use Rattle.busy.specs.Kept.{room-most, kept-by}
+use Rattle.busy.specs.Put.{processors-of}
 use Rattle.busy.specs.KeepsLaws.{keeps-itself}
 use Rattle.hand.specs.Hand.{start-by, finish-by, question-by}
 use Rattle.placing.specs.State.{State, meant-row, with-row}
 use Rattle.placing.specs.Kept.{Kept}
 use Rattle.placing.specs.KeptHand.{ready-within}
-use Rattle.placing.specs.KeptLaws.{kept-first, ends-within, busy-within, rb-within, rcb-within, next-kept, next-free, rcb-less}
-use Rattle.placing.specs.KeptMore.{PutIn, row-within, kept-more}
-use Rattle.placing.specs.Begins.{begun-in-range, ranks-begun}
+use Rattle.placing.specs.KeptLaws.{kept-first, ends-within, busy-within, rb-within, rcb-within, next-kept, next-may, rcb-less}
+use Rattle.placing.specs.KeptMore.{with-taken-up, row-within, kept-more}
+use Rattle.placing.specs.Begins.{begun-in-range, ranks-begun, held-begun, released-begun, begins-begun}
 use borrow.Author.Needs.{needs}
 use native.Mathlib.Omega.{arith}
 use Rattle.placing.proofs.place.Statement.{statement}
 use Rattle.placing.proofs.place.Tie as tie
 
 -- The locals of a turn.
-abbrev kept-in : (sits starts ends costs : List ℕ) (placed : List Bool) (processors : Processors) (rb spent rcb length : ℕ) → State
-kept-in sits starts ends costs placed processors rb spent rcb length =
+abbrev kept-in : (sits starts ends costs held begins finishes first : List ℕ) (rb spent rcb length : ℕ) → State
+kept-in sits starts ends costs held begins finishes first rb spent rcb length =
     record {
       sits = sits;
       starts = starts;
       ends = ends;
       costs = costs;
-      placed = placed;
-      processors = processors;
+      held = held;
+      processors = processors-of begins finishes first;
       rb = rb;
       spent = spent;
       rcb = rcb;
@@ -52,44 +54,60 @@ kept-in sits starts ends costs placed processors rb spent rcb length =
     }
 
 abbrev Inv-loop : tie.InvT-loop
-Inv-loop s v prices minimums ranks cheapest clock sits₀ starts₀ ends₀ costs₀ last before placed₀ processors₀ rb₀ spent₀ rcb₀ length₀ k₀
-    sits starts ends costs placed processors rb spent rcb length k =
-    let W = begun (kept-by processors₀) clock (workflow-of s v) in
-    (k ≤ v .tasks) × Kept W (place HBCS W k) k (kept-in sits starts ends costs placed processors rb spent rcb length)
+Inv-loop s v prices minimums ranks edges-at cheapest clock sits₀ starts₀ ends₀ costs₀ last before held₀ begins₀ finishes₀ first₀ rb₀ spent₀ rcb₀ length₀ k₀
+    sits starts ends costs held begins finishes first rb spent rcb length k =
+    let W = begun (kept-by (processors-of begins₀ finishes₀ first₀)) clock (workflow-of s v) in
+    (k ≤ v .tasks) × Kept W (place HBCS W k) k (kept-in sits starts ends costs held begins finishes first rb spent rcb length)
 
 abbrev μ-loop : tie.MeasureT-loop
-μ-loop s v prices minimums ranks cheapest clock sits₀ starts₀ ends₀ costs₀ last before placed₀ processors₀ rb₀ spent₀ rcb₀ length₀ k₀
-    sits starts ends costs placed processors rb spent rcb length k =
+μ-loop s v prices minimums ranks edges-at cheapest clock sits₀ starts₀ ends₀ costs₀ last before held₀ begins₀ finishes₀ first₀ rb₀ spent₀ rcb₀ length₀ k₀
+    sits starts ends costs held begins finishes first rb spent rcb length k =
     v .tasks - k
 
 link-all-requires : tie.Need-link-all-requires Inv-loop μ-loop
 link-all-requires c κs = (c .before .before .before .pre .0, linked-first _)
 
+count-all-requires : tie.Need-count-all-requires Inv-loop μ-loop
+count-all-requires c κs = (c .before .before .before .before .before .pre .0, refl)
+
 loop-holds : tie.Need-loop-holds Inv-loop μ-loop
 unfolding workflow begun cheapest-total lowest-cost cost place
 loop-holds c =
-    let pre = c .before .before .before .before .pre in
-    (omega arith, kept-first _ (pre .1 .1 .1) (keeps-itself (pre .1 .1 .0 .0)) (pre .1 .1 .0 .1) refl (pre .1 .0 .1))
+    let start = c .before .before .before .before .before .before .before .before .before in
+    let (in-order, few, ended, clock-in) = start .pre .1 .1 .1 .0 in
+    let held = held-begun _ (start .args .outset) (start .args .clock) (c .before .before .before .count-all .ensures) in
+    (omega arith, kept-first _ (start .pre .1 .1 .1 .1) held (keeps-itself in-order) few refl (start .pre .1 .0 .1))
 
 next-task-requires : tie.Need-next-task-requires Inv-loop μ-loop
 unfolding workflow begun
 next-task-requires c κs =
-    let start = c .before .before .before .before .before .before .before .before in
+    let start = c .before .before .before .before .before .before .before .before .before .before .before .before .before in
     let range = view-in-range (start .args .s .now) (start .args .v) (start .pre .0) in
-    (range .tasks-in .from-low, range .tasks-in .to-high, start .pre .1 .0 .0 .at-most)
+    (range .tasks-in .from-low, range .tasks-in .to-high, λ i l. omega (arith, start .pre .1 .0 .0 .are i l))
 
--- In a turn: the workflow, which is in range, the rows so far, and that a task is left.
+-- In a turn: what is known from the start on; the workflow, which is in range and has no cycle, the rows so far, and that a task is left.
+abbrev started : tie.After-next-task Inv-loop μ-loop → tie.Start Inv-loop μ-loop
+started c = c .before .before .before .before .before .before .before .before .before .before .before .before .before .before
+
 abbrev flow : tie.After-next-task Inv-loop μ-loop → Workflow
-flow c = let a = c .before .before .before .before .before .before .before .before .before .args in begun (kept-by (a .outset)) (a .clock) (workflow-of (a .s .now) (a .v))
+flow c = let a = started c .args in begun (kept-by (a .outset)) (a .clock) (workflow-of (a .s .now) (a .v))
 
 abbrev rows-so-far : tie.After-next-task Inv-loop μ-loop → List Placed
 rows-so-far c = place HBCS (flow c) (c .before .before .before .before .loop .k)
 
 in-range : (c : tie.After-next-task Inv-loop μ-loop) → InRange (flow c)
 in-range c =
-    let start = c .before .before .before .before .before .before .before .before .before in
-    let (in-order, few, ended, clock-in) = start .pre .1 .1 .0 in
-    begun-in-range (view-in-range (start .args .s .now) (start .args .v) (start .pre .0)) in-order ended clock-in
+    let (in-order, few, ended, clock-in) = started c .pre .1 .1 .1 .0 in
+    begun-in-range (view-in-range (started c .args .s .now) (started c .args .v) (started c .pre .0)) in-order ended clock-in
+
+acyclic : (c : tie.After-next-task Inv-loop μ-loop) → (i : ℕ) → Leads (flow c) i i → ⊥
+acyclic c =
+    let a = started c .args in
+    acyclic-begun (kept-by (a .outset)) (a .clock) (workflow-of (a .s .now) (a .v))
+    (none-leads-back (workflow-of (a .s .now) (a .v)) (view-in-range (a .s .now) (a .v) (started c .pre .0) .to-below) (started c .pre .1 .1 .0 .0))
+
+edges-begin : (c : tie.After-next-task Inv-loop μ-loop) → BeginsFrom (flow c) 0 (started c .args .edges-at .now)
+edges-begin c = begins-begun _ (started c .args .outset) (started c .args .clock) (started c .pre .1 .1 .0 .1)
 
 left : (c : tie.After-next-task Inv-loop μ-loop) → c .before .before .before .before .loop .k < flow c .tasks
 unfolding workflow begun
@@ -99,12 +117,11 @@ left c = c .before .before .if1 .taken
 next-is : (c : tie.After-next-task Inv-loop μ-loop) → c .next-task .result ≡ next-task (flow c) (is-placed (rows-so-far c))
 unfolding workflow begun
 next-is c =
-    let start = c .before .before .before .before .before .before .before .before .before in
-    let ranks-of = ranks-begun (start .args .outset) (start .args .clock) (start .pre .1 .0 .0) in
+    let ranks-of = ranks-begun _ (started c .args .outset) (started c .args .clock) (started c .pre .1 .0 .0) in
     next-kept (in-range c) (c .before .before .before .before .loop .inv .1) (left c) ranks-of (c .next-task .ensures)
 
 task-below : (c : tie.After-next-task Inv-loop μ-loop) → c .next-task .result < flow c .tasks
-task-below c = next-free (in-range c) (c .before .before .before .before .loop .inv .1) (left c) (next-is c) .0
+task-below c = next-may (in-range c) (c .before .before .before .before .loop .inv .1) (left c) (acyclic c) (next-is c) .0
 
 task-in-array : (c : tie.After-next-task Inv-loop μ-loop) → c .next-task .result < 64
 task-in-array c = omega (arith, task-below c, in-range c .tasks-in)
@@ -118,11 +135,11 @@ unfolding workflow begun arrived arrival cost lowest-cost start-by finish-by que
 rcb-is c =
     let turn = c .before .before .before in
     let lowest-is = c .lowest-of .ensures ∙ lowest-filled _ (in-range turn) _ (c .before .before .cost-on-all .ensures) in
-    rcb-less (in-range turn) (turn .before .before .before .before .loop .inv .1) (left turn) (next-is turn) lowest-is
+    rcb-less (in-range turn) (turn .before .before .before .before .loop .inv .1) (left turn) (acyclic turn) (next-is turn) lowest-is
 
 -- Once the task has its row: the turn that it ended, and what is kept after it.
 abbrev turn-of : tie.After-row-for Inv-loop μ-loop → tie.After-next-task Inv-loop μ-loop
-turn-of c = c .before .before .before .before .before .before .before .before .before .before .before .before .before .before .before
+turn-of c = c .before .before .before .before .before .before .before .before .before .before .before .before .before .before
 
 -- Its processor is one of the 16, and its minutes fit 32 bits.
 row-in-range :
@@ -133,32 +150,38 @@ unfolding workflow begun arrived arrival cost lowest-cost start-by finish-by que
 row-in-range c =
     let turn = turn-of c in
     let kept = turn .before .before .before .before .loop .inv .1 in
-    let to-come = rcb-is (c .before .before .before .before .before .before .before .before .before .before .before .before) .1 in
-    let all-ready = c .before .before .before .before .before .before .before .ready-on-all .ensures in
+    let to-come = rcb-is (c .before .before .before .before .before .before .before .before .before .before .before) .1 in
+    let all-ready = c .before .before .before .before .before .before .ready-on-all .ensures in
     let (below, forward, reach) = row-within HBCS-chooses-among (in-range turn) kept (left turn) (next-is turn) all-ready to-come (c .row-for .ensures) in
     (omega (arith, below, in-range turn .processors-in .to-high), forward, reach)
 
 turned : (c : tie.After-row-for Inv-loop μ-loop) →
     let turn = turn-of c in
     let loop = turn .before .before .before .before .loop in
-    let row = c .row-for .result in
-    let state = kept-in (loop .sits) (loop .starts) (loop .ends) (loop .costs) (loop .placed) (loop .processors) (loop .rb) (loop .spent) (loop .rcb) (loop .length) in
-    (after : Processors) → PutIn (at (loop .processors .first) 16) (loop .processors) (meant-row row) after
+    let begins = started turn .args .edges-at .now in
+    let task = turn .next-task .result in
+    let row = meant-row (c .row-for .result) in
+    (held : List ℕ) (after : Processors)
+    → held ≡ released (workflow-of (started turn .args .s .now) (started turn .args .v)) (at begins task) (at begins (task + 1)) task (loop .held)
+    → after ≡ with-taken-up row (processors-of (loop .begins) (loop .finishes) (loop .first))
     → Kept (flow turn) (place HBCS (flow turn) (loop .k + 1)) (loop .k + 1)
-    (with-row state (turn .next-task .result) (meant-row row) (loop .rcb - c .before .before .before .before .before .before .before .before .before .before .before .before .lowest-of .result) after)
+    (with-row
+    (kept-in (loop .sits) (loop .starts) (loop .ends) (loop .costs) (loop .held) (loop .begins) (loop .finishes) (loop .first) (loop .rb) (loop .spent) (loop .rcb)
+    (loop .length))
+    task row (loop .rcb - c .before .before .before .before .before .before .before .before .before .before .before .lowest-of .result) held after)
 unfolding workflow begun arrived arrival cost lowest-cost start-by finish-by question-by
-turned c after put =
+turned c held after held-is after-is =
     let turn = turn-of c in
+    let a = started turn .args in
     let kept = turn .before .before .before .before .loop .inv .1 in
-    let to-come = rcb-is (c .before .before .before .before .before .before .before .before .before .before .before .before) .1 in
-    let all-ready = c .before .before .before .before .before .before .before .ready-on-all .ensures in
-    kept-more HBCS-chooses-among (in-range turn) kept (left turn) (next-is turn) all-ready to-come (c .row-for .ensures) put
+    let to-come = rcb-is (c .before .before .before .before .before .before .before .before .before .before .before) .1 in
+    let all-ready = c .before .before .before .before .before .before .ready-on-all .ensures in
+    kept-more HBCS-chooses-among (in-range turn) kept (left turn) (next-is turn) all-ready to-come (c .row-for .ensures) (acyclic turn) (edges-begin turn)
+    (held-is ∙ released-begun (workflow-of (a .s .now) (a .v)) (a .outset) (a .clock) _ _ _ _) after-is
 
 cost-on-all-requires : tie.Need-cost-on-all-requires Inv-loop μ-loop
 unfolding workflow begun
-cost-on-all-requires c κs =
-    let start = c .before .before .before .before .before .before .before .before .before in
-    (start .pre .0, (start .pre .1 .0 .2, task-below c))
+cost-on-all-requires c κs = (started c .pre .0, (started c .pre .1 .0 .2, task-below c))
 
 lowest-of-requires : tie.Need-lowest-of-requires Inv-loop μ-loop
 unfolding workflow begun
@@ -174,16 +197,16 @@ unfolding workflow begun
 ready-on-all-requires c κs =
     let turn = c .before .before .before .before .before .before .before in
     let kept = turn .before .before .before .before .loop .inv .1 in
-    (turn .before .before .before .before .before .before .before .before .before .pre .0, (task-below turn, turn .before .before .before .before .before .link-all .ensures, ends-within (in-range turn) kept (left turn)))
+    (started turn .pre .0, (task-below turn, turn .before .before .before .before .before .before .before .before .before .before .link-all .ensures, ends-within (in-range turn) kept (left turn)))
 
 row-for-requires : tie.Need-row-for-requires Inv-loop μ-loop
 unfolding workflow begun arrived arrival cost lowest-cost start-by finish-by question-by
 row-for-requires c κs =
-    let turn = c .before .before .before .before .before .before .before .before .before .before .before .before .before .before in
+    let turn = c .before .before .before .before .before .before .before .before .before .before .before .before .before in
     let kept = turn .before .before .before .before .loop .inv .1 in
-    let costs-of = c .before .before .before .before .before .before .before .before .before .before .before .before .before .cost-on-all in
-    let all-ready = c .before .before .before .before .before .before .ready-on-all .ensures in (
-      turn .before .before .before .before .before .before .before .before .before .pre .0,
+    let costs-of = c .before .before .before .before .before .before .before .before .before .before .before .before .cost-on-all in
+    let all-ready = c .before .before .before .before .before .ready-on-all .ensures in (
+      started turn .pre .0,
       (
         (task-below turn, ready-within (in-range turn) kept _ all-ready (left turn)),
         (
@@ -217,100 +240,47 @@ mul-costs c = omega (arith, task-in-array (turn-of c))
 element-write-costs : tie.Need-element-write-costs Inv-loop μ-loop
 element-write-costs c = task-in-array (turn-of c)
 
-array-write-placed : tie.Need-array-write-placed Inv-loop μ-loop
-array-write-placed c = task-in-array (turn-of c)
+release-requires : tie.Need-release-requires Inv-loop μ-loop
+unfolding workflow begun
+release-requires c κs =
+    let turn = turn-of (c .before) in
+    (started turn .pre .0, ((task-below turn, turn .before .before .before .before .loop .inv .1 .held .size), started turn .pre .1 .1 .0 .1))
 
--- What is kept of the processors is in order, and there is room for a row at its place.
-kept-in-order :
-    (c : tie.After-row-for Inv-loop μ-loop)
-    → let processors = turn-of c .before .before .before .before .loop .processors in
-    InOrder (processors .begins) (processors .ends) (processors .first)
-kept-in-order c = turn-of c .before .before .before .before .loop .inv .1 .processors .in-order
-
-in-reach :
-    (c : tie.After-position Inv-loop μ-loop)
-    → let kept = turn-of (c .before .before .before .before .before) .before .before .before .before .loop .processors .first in
-    (c .position .result ≤ at kept 16) × (at kept 16 < room-most)
-in-reach c =
+-- There is room for its row.
+put-requires : tie.Need-put-requires Inv-loop μ-loop
+put-requires c κs =
     let row = c .before .before .before .before .before in
     let turn = turn-of row in
     let kept = turn .before .before .before .before .loop .inv .1 in
-    let place = place-in-reach (kept .processors .in-order) (row-in-range row .0) (row .row-for .result .start) in (
-      omega (arith, c .position .ensures, place, kept .processors .in-all),
-      omega (arith, kept .few-intervals, left turn, in-range turn .tasks-in),
-    )
-
--- What is kept once its row is put there.
-put : (c : tie.After-one-more Inv-loop μ-loop) →
-    let row = c .before .before .before .before .before .before .before .before .before .before .before .before .before in
-    let loop = turn-of row .before .before .before .before .loop in
-    PutIn (at (loop .processors .first) 16) (loop .processors) (meant-row (row .row-for .result))
-    (record { begins = c .before .before .before .before .before .insert .last .0; ends = c .before .before .insert2 .last .0; first = c .one-more .last .0 })
-put c =
-    record {
-      place = c .before .before .before .before .before .before .before .before .position .result;
-      place-is = c .before .before .before .before .before .before .before .before .position .ensures;
-      begins-are = c .before .before .before .before .before .insert .ensures;
-      ends-are = c .before .before .insert2 .ensures;
-      first-are = c .one-more .ensures;
-    }
-
-element-copy-out-kept : tie.Need-element-copy-out-kept Inv-loop μ-loop
-element-copy-out-kept c = search needs
-
-position-requires : tie.Need-position-requires Inv-loop μ-loop
-position-requires c κs =
-    let order = kept-in-order (c .before .before .before .before) in
-    let below = row-in-range (c .before .before .before .before) .0 in
-    (below, order .first-rises _ below, first-at-most order)
-
-cast-insert : tie.Need-cast-insert Inv-loop μ-loop
-cast-insert c = omega (arith, row-in-range (c .before .before .before .before .before .before .before))
-
-insert-requires : tie.Need-insert-requires Inv-loop μ-loop
-insert-requires c κs =
-    let row = c .before .before .before .before .before .before .before in
-    (kept-in-order row .begins-size, in-reach (c .before .before) .0, in-reach (c .before .before) .1)
-
-cast-insert-2 : tie.Need-cast-insert-2 Inv-loop μ-loop
-cast-insert-2 c = omega (arith, row-in-range (c .before .before .before .before .before .before .before .before .before .before))
-
-insert-requires-2 : tie.Need-insert-requires-2 Inv-loop μ-loop
-insert-requires-2 c κs =
-    let row = c .before .before .before .before .before .before .before .before .before .before in
-    (kept-in-order row .ends-size, in-reach (c .before .before .before .before .before) .0, in-reach (c .before .before .before .before .before) .1)
-
-one-more-requires : tie.Need-one-more-requires Inv-loop μ-loop
-one-more-requires c κs =
-    let row = c .before .before .before .before .before .before .before .before .before .before .before .before in
-    (kept-in-order row .first-size, row-in-range row .0, first-at-most (kept-in-order row))
+    let room : at (turn .before .before .before .before .loop .first) 16 < room-most = omega (arith, kept .few-intervals, left turn, in-range turn .tasks-in) in
+    ((row-in-range row .0, omega (arith, row-in-range row)), (kept .processors .in-order, room))
 
 less-requires : tie.Need-less-requires Inv-loop μ-loop
 less-requires c κs = search needs
 
 add-spent : tie.Need-add-spent Inv-loop μ-loop
 add-spent c =
-    let row = c .before .before .before .before .before .before .before .before .before .before .before .before .before .before .before in
+    let row = c .before .before .before .before .before .before .before .before in
     let turn = turn-of row in
-    omega (arith, turned row _ (put (c .before .before)) .spent-most, left turn, in-range turn .tasks-in)
+    omega (arith, turned row _ _ refl refl .spent-most, left turn, in-range turn .tasks-in)
 
 larger-requires : tie.Need-larger-requires Inv-loop μ-loop
 larger-requires c κs = search needs
 
 add-k : tie.Need-add-k Inv-loop μ-loop
-add-k c =
-    let turn = turn-of (c .before .before .before .before .before .before .before .before .before .before .before .before .before .before .before .before) in
-    omega (arith, left turn, in-range turn .tasks-in)
+add-k c = let turn = turn-of (c .before .before .before .before .before .before .before .before .before) in omega (arith, left turn, in-range turn .tasks-in)
 
 loop-less : tie.Need-loop-less Inv-loop μ-loop
 unfolding workflow begun
-loop-less c = omega (arith, left (turn-of (c .before .before .before .before .before .before .before .before .before .before .before .before .before .before .before .before)))
+loop-less c = omega (arith, left (turn-of (c .before .before .before .before .before .before .before .before .before)))
 
 loop-again : tie.Need-loop-again Inv-loop μ-loop
 unfolding workflow begun
 loop-again c =
-    let row = c .before .before .before .before .before .before .before .before .before .before .before .before .before .before .before .before in
-    (omega (arith, left (turn-of row)), rw (c .larger .ensures, c .before .before .less .ensures) (turned row _ (put (c .before .before .before))))
+    let row = c .before .before .before .before .before .before .before .before .before in (
+      omega (arith, left (turn-of row)),
+      rw (c .larger .ensures, c .before .before .less .ensures) (turned row _ _ (c .before .before .before .before .before .before .before .release .ensures) (c .before .before .before .put .ensures)),
+    )
 
 less-requires-2 : tie.Need-less-requires-2 Inv-loop μ-loop
 less-requires-2 c κs = search needs
@@ -319,7 +289,7 @@ returns : tie.Need-returns Inv-loop μ-loop
 unfolding workflow begun
 returns c =
     let loop = c .before .before .before .loop in
-    let v = c .before .before .before .before .before .before .before .before .args .v in
+    let v = c .before .before .before .before .before .before .before .before .before .before .before .before .before .args .v in
     let passed : loop .k ≡ v .tasks = omega arith in
     let kept = rw passed at (loop .inv .1) in
     record {
@@ -336,6 +306,7 @@ place-spec =
     Inv-loop
     μ-loop
     link-all-requires
+    count-all-requires
     loop-holds
     next-task-requires
     cost-on-all-requires
@@ -351,14 +322,8 @@ place-spec =
     element-write-ends
     mul-costs
     element-write-costs
-    array-write-placed
-    element-copy-out-kept
-    position-requires
-    cast-insert
-    insert-requires
-    cast-insert-2
-    insert-requires-2
-    one-more-requires
+    release-requires
+    put-requires
     less-requires
     add-spent
     larger-requires
