@@ -10,22 +10,22 @@ use Rattle.rules.specs.Ranks.{cheapest-total}
 use Rattle.rules.specs.Rows.{Placed, length-of}
 use Rattle.rules.specs.Method.{HBCS}
 use Rattle.rules.specs.Placing.{place}
-use Rattle.rules.specs.Answer.{refusal, refuse, too-late, placed-outcome, outcome-by}
+use Rattle.rules.specs.Answer.{refusal, refuse, too-late, placed-outcome, outcome-of, outcome-by}
 use Rattle.planner.specs.Planned.{outcome-within}
 
 module _ (W : Workflow) where
   module _ (lent : ℕ) where
     pub too-few-rows : lent < W .tasks → outcome-by HBCS W lent ≡ refusal 7 (W .tasks)
-    unfolding outcome-by refuse
+    unfolding outcome-by outcome-of refuse
     too-few-rows few = rw (lt-ltb lent (W .tasks) few)
 
     module _ (enough : W .tasks ≤ lent) where
       pub with-cycle : cyclic W ≡ true → outcome-by HBCS W lent ≡ refusal 8 (lowest-in-cycle W)
-      unfolding outcome-by refuse
+      unfolding outcome-by outcome-of refuse
       with-cycle cycle = rw (le-ltb lent (W .tasks) enough, cycle)
 
       pub without-cycle : cyclic W ≡ false → outcome-by HBCS W lent ≡ outcome-within W
-      unfolding outcome-by refuse outcome-within
+      unfolding outcome-by outcome-of refuse outcome-within
       without-cycle none = rw (le-ltb lent (W .tasks) enough, none)
 
   pub too-dear : W .budget < cheapest-total W → outcome-within W ≡ refusal 9 (cheapest-total W)

@@ -16,7 +16,7 @@ use Rattle.rules.specs.Rows.{Placed, length-of}
 use Rattle.rules.specs.Method.{HBCS}
 use Rattle.rules.specs.Placing.{place}
 use Rattle.rules.specs.Answer as rules
-use Rattle.rules.specs.Answer.{Outcome, plan, refuse, too-late, placed-outcome, outcome-by, outcome-read, outcome, answer-of}
+use Rattle.rules.specs.Answer.{Outcome, plan, refuse, too-late, placed-outcome, outcome-of, outcome-by, outcome-read, outcome, answer-of}
 use Rattle.good.specs.ReadIsGood.{read-is-good}
 use Rattle.planner.specs.declared.Answer.{Answer}
 use Rattle.planner.specs.declared.Answer.the-variants as answer
@@ -45,7 +45,7 @@ placed-within W rows =
     refused-or (too-late (W .deadline) (length-of rows)) 11 (length-of rows) (W .tasks) (plan W rows) (λ in-time. omega arith)
 
 pub outcome-by-within : (W : Workflow) (lent : ℕ) → rows-due (answer-of (outcome-by HBCS W lent)) ≤ min lent (W .tasks)
-unfolding outcome-by
+unfolding outcome-by outcome-of
 outcome-by-within W lent =
     refused-or (ltb lent (W .tasks)) 7 (W .tasks) (min lent (W .tasks)) _
     (λ enough.

@@ -1,10 +1,13 @@
 // The plan of a request: the answer, and its rows in four arrays.
 ghost use mathlib.Core.Path.{_≡_};
+ghost use mathlib.Core.Bool.{false};
 ghost use mathlib.Core.List.{[]};
+ghost use Rattle.rules.specs.Cycle.{cyclic};
 ghost use Rattle.rules.specs.Method.{HBCS};
 ghost use Rattle.rules.specs.Answer.{too-late, outcome-by, outcome};
 ghost use Rattle.reader.specs.Meaning.{ViewOf, meant-deadline};
 ghost use Rattle.lookup.specs.Lookup.{workflow-of};
+ghost use Rattle.successors.specs.Begins.{BeginsFrom};
 ghost use Rattle.placing.specs.Placed.{RanksOf, Columns};
 ghost use Rattle.planner.specs.Planned.{PlanOf, planned-in, outcome-within, rows-told};
 use reader::Deadline;
@@ -49,6 +52,7 @@ fn plan_ranked(
     s: &[u8],
     v: View,
     ranks: &[u64; 64],
+    edges_at: &[u16; 65],
     processors: &mut [u64; 64],
     starts: &mut [u64; 64],
     finishes: &mut [u64; 64],
@@ -56,6 +60,7 @@ fn plan_ranked(
 ) -> Answer
     requires { ⌜ ViewOf (now s) v ⌝ }
     requires { ⌜ RanksOf (workflow-of (now s) v) (now ranks) ⌝ }
+    requires { ⌜ (cyclic (workflow-of (now s) v) ≡ false) × BeginsFrom (workflow-of (now s) v) 0 (now «edges_at») ⌝ }
     requires { ⌜ Columns [] (now processors) (now starts) (now finishes) (now costs) ⌝ }
     ensures { λ r. ⌜ PlanOf (outcome-within (workflow-of (now (s .entry)) v)) (planned-in (now (processors .exit)) (now (starts .exit)) (now (finishes .exit)) (now (costs .exit)) r) ⌝ }
 {
@@ -74,6 +79,7 @@ fn plan_ranked(
         &charges.prices,
         &charges.minimums,
         ranks,
+        edges_at,
         cheapest,
         outset,
         0,
@@ -122,9 +128,10 @@ pub fn plan_good(
             place: v.tasks as u64,
         };
     }
+    let edges_at = successors::begins_all(s, v);
     let mut ranks = [0u64; 64];
-    if ranking::rank_all(s, v, &mut ranks) {
-        return plan_ranked(s, v, &ranks, processors, starts, finishes, costs);
+    if ranking::rank_all(s, v, &edges_at, &mut ranks) {
+        return plan_ranked(s, v, &ranks, &edges_at, processors, starts, finishes, costs);
     }
     Answer::Refused {
         number: 8,

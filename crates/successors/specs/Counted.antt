@@ -1,6 +1,6 @@
 -- How many edges lead to each task, with one edge more counted at a time.
 use Prim.Native.Nat.{ℕ, _+_, _≤_, _<_}
-use mathlib.Core.Path.{_≡_, refl, _∙_}
+use mathlib.Core.Path.{_≡_, refl, sym, ap, _∙_}
 use mathlib.Core.Bool.{cond}
 use mathlib.Core.List.{List}
 use native.Mathlib.Decide.{ℕ-discrete}
@@ -26,14 +26,6 @@ module _ (W : Workflow) where
   counted-none = record { size = refl; counts = repeated {A = ℕ} 64 0 }
 
   module _ (k : ℕ) (held : List ℕ) (counted : Counted W k held) where
-    pub counted-most : (i : ℕ) → at held i ≤ k
-    counted-most i =
-        omega (
-          arith,
-          counted .counts i,
-          sum-at-most-each k (into W i) 1 (λ e l. cond-either (λ n. n ≤ 1) (eqb (W .to e) i) 1 0 (λ h. omega arith) (λ h. omega arith)),
-        )
-
     -- One edge more, which leads to `to`.
     pub counted-next : (to : ℕ) → W .to k ≡ to → to < 64 → Counted W (k + 1) (set held to (at held to + 1))
     counted-next to leads below =
@@ -41,9 +33,17 @@ module _ (W : Workflow) where
           size = length-set held to _ ∙ counted .size;
           counts =
               stored-holds held (λ i. sum k (into W i)) _ to _ 0 (omega (arith, counted .size)) (counted .counts)
-              (λ i. sum-next k (into W i) refl (go i (ℕ-discrete to i)));
+              (λ i. sum-next k (into W i) refl (go i (ℕ-discrete to i) ∙ ap (λ t. sum k (into W i) + cond (eqb t i) 1 0) (sym leads)));
         }
       where
-        go : (i : ℕ) → Dec (to ≡ i) → cond (eqb to i) (at held to + 1) (sum k (into W i)) ≡ sum k (into W i) + into W i k
-        go i (yes e) = rw (leads, eq-eqb to i e, ← e, counted .counts to)
-        go i (no n) = rw (leads, ne-eqb to i n) (omega arith)
+        go : (i : ℕ) → Dec (to ≡ i) → cond (eqb to i) (at held to + 1) (sum k (into W i)) ≡ sum k (into W i) + cond (eqb to i) 1 0
+        go i (yes e) = rw (eq-eqb to i e, ← e, counted .counts to)
+        go i (no n) = rw (ne-eqb to i n) (omega arith)
+
+    pub counted-most : (i : ℕ) → at held i ≤ k
+    counted-most i =
+        omega (
+          arith,
+          counted .counts i,
+          sum-at-most-each k (into W i) 1 (λ e l. cond-either (λ n. n ≤ 1) (eqb (W .to e) i) 1 0 (λ h. omega arith) (λ h. omega arith)),
+        )

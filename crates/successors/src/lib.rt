@@ -3,7 +3,7 @@
 ghost use mathlib.Core.Path.{_≡_};
 ghost use mathlib.Core.Bool.{false};
 ghost use Prim.Native.Nat.{_+_, _<_};
-ghost use lib.ListN.{length, getD, replicate};
+ghost use lib.ListN.{getD, replicate};
 ghost use Rattle.reader.specs.Meaning.{ViewOf};
 ghost use Rattle.lookup.specs.Lookup.{workflow-of};
 ghost use Rattle.successors.specs.Begins.{Begins, BeginsFrom};
@@ -61,7 +61,7 @@ pub fn count_all(s: &[u8], v: View, held: &mut [u64; 64])
 // The task is placed: it is held back from now on, and its successors are no more held back by it.
 pub fn release(s: &[u8], v: View, begins: &[u16; 65], task: usize, held: &mut [u64; 64])
     requires { ⌜ ViewOf (now s) v ⌝ }
-    requires { ⌜ (task < v .tasks) × (length (now held) ≡ 64) ⌝ }
+    requires { ⌜ task < v .tasks ⌝ }
     requires { ⌜ BeginsFrom (workflow-of (now s) v) 0 (now begins) ⌝ }
     ensures { λ r. ⌜ now (held .exit) ≡ released (workflow-of (now (s .entry)) v) (getD (now (begins .entry)) task 0) (getD (now (begins .entry)) (task + 1) 0) task (now (held .entry)) ⌝ }
 {

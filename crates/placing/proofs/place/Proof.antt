@@ -244,7 +244,7 @@ release-requires : tie.Need-release-requires Inv-loop μ-loop
 unfolding workflow begun
 release-requires c κs =
     let turn = turn-of (c .before) in
-    (started turn .pre .0, ((task-below turn, turn .before .before .before .before .loop .inv .1 .held .size), started turn .pre .1 .1 .0 .1))
+    (started turn .pre .0, (task-below turn, started turn .pre .1 .1 .0 .1))
 
 -- There is room for its row.
 put-requires : tie.Need-put-requires Inv-loop μ-loop

@@ -38,7 +38,7 @@ unfolding workflow
 returns c =
     let total = c .before .before in
     let is = total .cheapest-total .ensures .0 in
-    rw (too-dear (flow total) (rw is at (c .if1 .taken)), ← is) (refused-plan (entry total .pre .1 .1) 9 _)
+    rw (too-dear (flow total) (rw is at (c .if1 .taken)), ← is) (refused-plan (entry total .pre .1 .1 .1) 9 _)
 
 busy-at-first-requires : tie.Need-busy-at-first-requires
 busy-at-first-requires c κs = search needs
@@ -60,13 +60,16 @@ place-requires c κs =
       (
         (start .pre .1 .0, total .cheapest-total .ensures .0, charges .ensures),
         (
+          start .pre .1 .1 .0,
           (
-            keeps .in-order,
-            omega (arith, keeps .in-all),
-            keeps-end-by keeps first-most (λ j l v m. in-range outset .first-end-in j v m),
-            omega arith,
+            (
+              keeps .in-order,
+              omega (arith, keeps .in-all),
+              keeps-end-by keeps first-most (λ j l v m. in-range outset .first-end-in j v m),
+              omega arith,
+            ),
+            start .pre .1 .1 .1,
           ),
-          start .pre .1 .1,
         ),
       ),
     )

@@ -2,6 +2,7 @@
 use Prim.Native.Nat.{_<_, _≤_, _-_}
 use mathlib.Core.Path.{sym}
 use Rattle.rules.specs.Workflow.{workflow}
+use Rattle.good.specs.Ranges.{InRange}
 use Rattle.lookup.specs.Lookup.{workflow-of}
 use Rattle.lookup.specs.Views.{view-in-range}
 use Rattle.successors.specs.Counted.{Counted, counted-none, counted-most, counted-next}
@@ -23,12 +24,14 @@ loop-holds c = (omega arith, rw (c .before .pre .1) (counted-none _))
 to-requires : tie.Need-to-requires Inv-loop μ-loop
 to-requires c κs = search needs
 
+-- The workflow is in range.
+in-range : (c : tie.Start Inv-loop μ-loop) → InRange (workflow-of (c .args .s .now) (c .args .v))
+in-range c = view-in-range (c .args .s .now) (c .args .v) (c .pre .0)
+
 -- The task that the edge leads to has its place in the array.
 in-array : (c : tie.After-to Inv-loop μ-loop) → c .to .result < 64
 unfolding workflow
-in-array c =
-    let start = c .before .before .before .before .before in
-    omega (arith, c .to .ensures .1, view-in-range (start .args .s .now) (start .args .v) (start .pre .0) .tasks-in)
+in-array c = omega (arith, c .to .ensures .1, in-range (c .before .before .before .before .before) .tasks-in)
 
 mul-held : tie.Need-mul-held Inv-loop μ-loop
 mul-held c = omega (arith, in-array c)
@@ -37,9 +40,14 @@ element-copy-out-held : tie.Need-element-copy-out-held Inv-loop μ-loop
 element-copy-out-held c = in-array c
 
 add-held : tie.Need-add-held Inv-loop μ-loop
+unfolding workflow
 add-held c =
     let loop = c .before .before .before .before .loop in
-    omega (arith, counted-most _ (loop .e) (loop .held) (loop .inv .1) (c .before .to .result))
+    omega (
+      arith,
+      counted-most _ (loop .e) (loop .held) (loop .inv .1) (c .before .to .result),
+      in-range (c .before .before .before .before .before .before) .edges-in,
+    )
 
 mul-held-2 : tie.Need-mul-held-2 Inv-loop μ-loop
 mul-held-2 c = omega (arith, in-array (c .before))

@@ -1,7 +1,7 @@
 -- Of the array in which the task is marked, each edge passed has counted down the task that it leads to.
 use Prim.Native.Nat.{_+_, _<_, _≤_, _-_}
 use mathlib.Core.Path.{_≡_, refl}
-use lib.ListN.{getD, set}
+use lib.ListN.{getD}
 use Rattle.rules.specs.Workflow.{workflow}
 use Rattle.good.specs.Ranges.{InRange}
 use Rattle.lookup.specs.Lookup.{workflow-of}
@@ -27,16 +27,16 @@ in-range c = view-in-range (c .args .s .now) (c .args .v) (c .pre .0)
 
 task-below : (c : tie.Start Inv-loop μ-loop) → c .args .task < 64
 unfolding workflow
-task-below c = omega (arith, in-range c .tasks-in, c .pre .1 .0 .0)
+task-below c = omega (arith, in-range c .tasks-in, c .pre .1 .0)
 
 -- Where the task's edges begin, and where they end.
 begin-within : (c : tie.Start Inv-loop μ-loop) → getD (c .args .begins .now) (c .args .task) 0 ≤ 512
 unfolding workflow
-begin-within c = omega (arith, c .pre .1 .1 .begin (c .args .task) (omega arith) (omega (arith, c .pre .1 .0 .0)) .within, in-range c .edges-in)
+begin-within c = omega (arith, c .pre .1 .1 .begin (c .args .task) (omega arith) (omega (arith, c .pre .1 .0)) .within, in-range c .edges-in)
 
 end-within : (c : tie.Start Inv-loop μ-loop) → getD (c .args .begins .now) (c .args .task + 1) 0 ≤ c .args .v .edges
 unfolding workflow
-end-within c = c .pre .1 .1 .begin (c .args .task + 1) (omega arith) (omega (arith, c .pre .1 .0 .0)) .within
+end-within c = c .pre .1 .1 .begin (c .args .task + 1) (omega arith) (omega (arith, c .pre .1 .0)) .within
 
 mul-held : tie.Need-mul-held Inv-loop μ-loop
 mul-held c = omega (arith, task-below (c .before))
@@ -112,12 +112,10 @@ loop-again : tie.Need-loop-again Inv-loop μ-loop
 loop-again c =
     let turn = c .before .before in
     let loop = turn .before .before .loop in
-    let a = turn .before .before .before .before .before .before .args in
-    let begin = getD (a .begins .now) (a .task) 0 in (
+    let (onward, within, so-far) = loop .inv in (
       omega arith,
       omega (arith, turn .before .loop-test .taken),
-      counted-down-next _ begin (set (a .held .now) (a .task) 1) (loop .e) (turn .to .result) (c .less .result) (loop .held)
-          (loop .inv .0) (loop .inv .2) (turn .to .ensures .0) (c .less .ensures),
+      counted-down-next _ _ _ (loop .e) (turn .to .result) (c .less .result) (loop .held) onward so-far (turn .to .ensures .0) (c .less .ensures),
     )
 
 returns : tie.Need-returns Inv-loop μ-loop
