@@ -10,7 +10,7 @@ mod request;
 pub mod samples;
 pub mod shapes;
 
-pub use plan::{ranks, schedule};
+pub use plan::{order, ranks, schedule};
 pub use print::text;
 pub use request::{read, Edge, Refusal, Window, Workflow, MOST_BYTES};
 

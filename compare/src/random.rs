@@ -477,7 +477,7 @@ fn put_out_of_range(random: &mut Random, request: &mut [u8], record: Range<usize
             label[random.within(0, 7) as usize] = random.one_of(b" ;@[`{/:,^.\0\n\x7f\x80\xc1\xff")
         }
         [b'W', _, _, minutes @ ..] if minutes.len() == 2 => {
-            minutes.copy_from_slice(&random.one_of(&[0, 2_001u16]).to_le_bytes())
+            minutes.copy_from_slice(&2_001u16.to_le_bytes())
         }
         [b'E', from, to, transfer @ ..] if transfer.len() == 2 => match random.within(1, 4) {
             1 => *from = n,

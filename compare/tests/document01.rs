@@ -1,6 +1,7 @@
-//! The cases of document 01 and of A4 and A5 of document 02, and both edges of
-//! each range. Offsets in S(28): H 0, P 7 10, T W W 13 23 28, 33 43 48, 53 63 68,
-//! E 73 78, Z 83, end 84.
+//! The cases of document 01 and of A4, A5 and A9 of document 02, and both edges of
+//! each range. Of document 01's cases one is no longer as it stands there: 0 minutes,
+//! which it refuses with 4, pass since A9. Offsets in S(28): H 0, P 7 10, T W W
+//! 13 23 28, 33 43 48, 53 63 68, E 73 78, Z 83, end 84.
 
 use std::io::Write;
 use std::process::{Command, Stdio};
@@ -245,13 +246,21 @@ fn price_0_to_100() {
     refuses(&with_record(2, p(1, 255)), 4, 10);
 }
 
+/// Document 01 has "minutes 1 and 2,000 pass, 0 and 2,001 are 4"; "0 minutes no
+/// longer gives 4, and that case of 01 changes" (A9).
 #[test]
-fn minutes_1_to_2_000() {
-    refuses(&with_record(4, w(0, 0, 0)), 4, 23);
-    passes(&with_record(4, w(0, 0, 1)));
-    passes(&with_record(4, w(0, 0, 2_000)));
-    refuses(&with_record(4, w(0, 0, 2_001)), 4, 23);
-    refuses(&with_record(11, w(2, 1, u16::MAX)), 4, 68);
+fn minutes_0_to_2_000() {
+    for (k, task, processor, at) in [(4, 0, 0, 23), (5, 0, 1, 28), (11, 2, 1, 68)] {
+        passes(&with_record(k, w(task, processor, 0)));
+        passes(&with_record(k, w(task, processor, 1)));
+        passes(&with_record(k, w(task, processor, 2_000)));
+        refuses(&with_record(k, w(task, processor, 2_001)), 4, at);
+        refuses(&with_record(k, w(task, processor, u16::MAX)), 4, at);
+    }
+    // A task may be 0 on one processor and not on another, and on all.
+    let minutes: [&[u16]; 3] = [&[0, 2_000], &[0, 0], &[7, 0]];
+    let request = Draft::new(20_000_000, &[1, 3], &minutes, &[]).bytes();
+    assert_eq!(read(&request).unwrap().minutes, [0, 2_000, 0, 0, 7, 0]);
 }
 
 #[test]
@@ -480,7 +489,7 @@ fn edges_rise_by_from_and_then_to() {
 fn three_comes_before_four_and_five() {
     refuses(&with_record(1, p(1, 101)), 3, 7);
     refuses(&with_record(3, t(1, "pr;p")), 3, 13);
-    refuses(&with_record(4, w(0, 1, 0)), 3, 23);
+    refuses(&with_record(4, w(0, 1, 2_001)), 3, 23);
     refuses(&with_record(13, e(0, 0, 0)), 3, 78); // after (0, 1), and equal ends
     refuses(&with_record(13, e(0, 1, 1_001)), 3, 78);
     let edges = |edges: &[(u8, u8, u16)]| Draft { edges: edges.to_vec(), ..sample(28) }.bytes();
@@ -499,7 +508,7 @@ fn whole_body_comes_before_its_content() {
 #[test]
 fn the_first_fault_ends_reading() {
     let mut records = sample(28).records();
-    records[11] = w(2, 1, 0);
+    records[11] = w(2, 1, 2_001);
     records[13] = e(0, 1, 0);
     refuses(&records.concat(), 4, 68);
     records[3] = t(0, "");
@@ -912,6 +921,28 @@ fn windows_of_any_number() {
             assert_eq!(label(&request, 1), b"t1");
         }
     }
+}
+
+// ---- Markers ----
+
+/// S(28) with a first and a last task of no minutes, as workflows are exported: it
+/// is planned as before, with `start` at 0 and `end` at 14, where it ends.
+#[test]
+fn s28_with_a_start_and_an_end() {
+    let minutes: [&[u16]; 5] = [&[0, 0], &[10, 4], &[8, 4], &[6, 2], &[0, 0]];
+    let edges = [(1, 2, 2), (1, 3, 3), (2, 0, 0), (3, 0, 0), (4, 1, 0)];
+    let mut draft = Draft::new(28, &[1, 3], &minutes, &edges);
+    for (task, label) in draft.tasks.iter_mut().zip(["end", "prep", "left", "right", "start"]) {
+        task.0 = label.to_string();
+    }
+    let request = draft.bytes();
+    assert_eq!(ranks(&read(&request).unwrap()), Some(vec![0, 30, 12, 8, 30]));
+    let expected = "plan 5 14 26 2\nend 0 14 14 0\nprep 1 0 4 12\nleft 0 6 14 8\n\
+        right 1 4 6 6\nstart 0 0 0 0\n";
+    assert_eq!(text(&request), expected.as_bytes());
+    let dated = |deadline| answer(&Draft { deadline: Some(deadline), ..draft.clone() }.bytes());
+    assert_eq!(dated(14), planned(5, 14, 26, 2));
+    assert_eq!(dated(13), refused(11, 14));
 }
 
 // ---- Refusals after reading ----

@@ -1,9 +1,9 @@
-//! Ranks, ties, minimums, windows and the choice of a processor, each on a request
-//! small enough to be worked out by hand. The first five are the "Slips that look
-//! right" of document 01; the comments say what the slip would answer.
+//! Ranks, ties, minimums, windows, markers and the choice of a processor, each on a
+//! request small enough to be worked out by hand. The first five are the "Slips that
+//! look right" of document 01; the comments say what the slip would answer.
 
 use compare::build::{sample, Draft};
-use compare::{plan, ranks, read, Answer, Row};
+use compare::{order, plan, ranks, read, Answer, Row};
 
 /// (length, cost, left), and for each task (processor, start, finish, cost).
 type Plan = ((u64, u64, u64), Vec<(u64, u64, u64, u64)>);
@@ -22,6 +22,11 @@ fn planned(draft: &Draft) -> Plan {
 
 fn ranks_of(draft: &Draft) -> Vec<i64> {
     ranks(&read(&draft.bytes()).unwrap()).unwrap()
+}
+
+/// The tasks in the order in which they are placed.
+fn order_of(draft: &Draft) -> Vec<usize> {
+    order(&read(&draft.bytes()).unwrap()).unwrap()
 }
 
 // ---- Slips ----
@@ -97,6 +102,7 @@ fn edges_may_lead_to_lower_numbers() {
 fn tie_of_ranks_goes_to_the_lower_number() {
     // R 5, 7, 5, 7: placed as 1, 3, 0, 2.
     let draft = Draft::new(0, &[0], &[&[5], &[7], &[5], &[7]], &[]);
+    assert_eq!(order_of(&draft), [1, 3, 0, 2]);
     let rows = vec![(0, 14, 19, 0), (0, 0, 7, 0), (0, 19, 24, 0), (0, 7, 14, 0)];
     assert_eq!(planned(&draft), ((24, 0, 0), rows));
 }
@@ -600,6 +606,221 @@ fn windows_multiplied_out_of_range() {
     assert_eq!(refusal(&draft(10_001).times(2, 1)), (4, 13));
     assert!(read(&draft(20_000).times(1, 7).bytes()).is_ok());
     assert_eq!(refusal(&draft(20_000).times(2, 1)), (4, 13));
+}
+
+// ---- Markers ----
+
+#[test]
+fn all_minutes_0() {
+    // All are at 0 on processor 0, where no transfer counts.
+    let minutes: [&[u16]; 3] = [&[0, 0]; 3];
+    let draft = Draft::new(28, &[1, 3], &minutes, &[(0, 1, 2), (0, 2, 3)]);
+    assert_eq!(ranks_of(&draft), [6, 0, 0]);
+    assert_eq!(planned(&draft), ((0, 0, 28), vec![(0, 0, 0, 0); 3]));
+    let draft = Draft { budget: 0, ..draft };
+    assert_eq!(planned(&draft), ((0, 0, 0), vec![(0, 0, 0, 0); 3]));
+    // With a deadline, which is at least 1, and where all are down.
+    let down = draft.clone().with_windows(&[(0, 0, 20_000), (1, 0, 20_000)]);
+    let dated = Draft { deadline: Some(1), ..down };
+    assert_eq!(planned(&dated), ((0, 0, 0), vec![(0, 0, 0, 0); 3]));
+    // Every task of the most tasks on the most processors.
+    let minutes = [0; 16];
+    let most = Draft::new(0, &[100; 16], &[&minutes[..]; 64], &[]);
+    assert_eq!(planned(&most), ((0, 0, 0), vec![(0, 0, 0, 0); 64]));
+    // A cycle is one without a minute, too.
+    let mut cyclic = draft;
+    cyclic.edges.push((2, 0, 0));
+    assert_eq!(refusal(&cyclic), (8, 0));
+}
+
+#[test]
+fn marker_between_tasks_of_equal_rank() {
+    // R 5 for all: task 0 waits for the marker 2. So 1, then 2, which opens 0, and
+    // then 0 before 3. Document 01's order is by number: 0, 1 and 3 at 0, 5 and 10.
+    let draft = Draft::new(0, &[0], &[&[5], &[5], &[0], &[5]], &[(2, 0, 0)]);
+    assert_eq!(ranks_of(&draft), [5, 5, 5, 5]);
+    assert_eq!(order_of(&draft), [1, 2, 0, 3]);
+    assert_eq!(starts(&draft), [5, 0, 0, 10]);
+    // With a transfer the marker's rank is higher, and it goes first.
+    let draft = Draft::new(0, &[0], &[&[5], &[5], &[0], &[5]], &[(2, 0, 1)]);
+    assert_eq!(ranks_of(&draft), [5, 5, 6, 5]);
+    assert_eq!(order_of(&draft), [2, 0, 1, 3]);
+    assert_eq!(starts(&draft), [0, 5, 0, 10]);
+}
+
+#[test]
+fn marker_before_a_task_of_lower_number() {
+    // A first task that takes no time, numbered last: R 9, 9, 4, 9. Document 01's
+    // order has 0 and 1 before it.
+    let minutes: [&[u16]; 4] = [&[9], &[5], &[4], &[0]];
+    let draft = Draft::new(0, &[0], &minutes, &[(1, 2, 0), (3, 0, 0), (3, 1, 0)]);
+    assert_eq!(ranks_of(&draft), [9, 9, 4, 9]);
+    assert_eq!(order_of(&draft), [3, 0, 1, 2]);
+    assert_eq!(starts(&draft), [0, 9, 14, 0]);
+}
+
+#[test]
+fn marker_with_a_lower_number_than_its_predecessor() {
+    // 2 before 1 before 0, the last two of rank 0. Document 01's order has 0 before
+    // 1, which would put it at 0, before its data is ready.
+    let draft = Draft::new(0, &[0], &[&[0], &[0], &[5]], &[(1, 0, 0), (2, 1, 0)]);
+    assert_eq!(ranks_of(&draft), [0, 0, 5]);
+    assert_eq!(order_of(&draft), [2, 1, 0]);
+    assert_eq!(planned(&draft), ((5, 0, 0), vec![(0, 5, 5, 0), (0, 5, 5, 0), (0, 0, 5, 0)]));
+    // A chain of them against the numbers, behind one task.
+    let minutes = [&[[0]; 63][..], &[[2_000]]].concat();
+    let minutes: Vec<&[u16]> = minutes.iter().map(|of_task| &of_task[..]).collect();
+    let edges: Vec<_> = (1..64).map(|i| (i, i - 1, 0)).collect();
+    let draft = Draft::new(0, &[0], &minutes, &edges);
+    assert_eq!(order_of(&draft), (0..64).rev().collect::<Vec<_>>());
+    let rows = [vec![(0, 2_000, 2_000, 0); 63], vec![(0, 0, 2_000, 0)]].concat();
+    assert_eq!(planned(&draft), ((2_000, 0, 0), rows));
+}
+
+#[test]
+fn marker_with_a_predecessor_that_is_placed_late() {
+    // Task 0 waits for 1 and for the marker 2, which waits for 3: R 0, 7, 0, 5.
+    // Document 01's order is 1, 3, 0, 2 and would put 0 at 7, when 1 is finished;
+    // so would placing it once one of its predecessors is placed.
+    let draft = Draft::new(0, &[0], &[&[0], &[7], &[0], &[5]], &[(1, 0, 0), (2, 0, 0), (3, 2, 0)]);
+    assert_eq!(ranks_of(&draft), [0, 7, 0, 5]);
+    assert_eq!(order_of(&draft), [1, 3, 2, 0]);
+    assert_eq!(starts(&draft), [12, 0, 12, 7]);
+}
+
+#[test]
+fn marker_inside_a_window() {
+    // Task 1 takes no time on processor 1, where its data is at 5.
+    let task_1 = |minutes: &[u16], windows: &[(u8, u32, u32)]| {
+        let draft = Draft::new(0, &[0, 0], &[&[2, 20], minutes], &[(0, 1, 3)]);
+        planned(&draft.with_windows(windows)).1[1]
+    };
+    for windows in [&[(1, 5, 9)][..], &[(1, 4, 9)], &[(1, 4, 5), (1, 5, 9)], &[(1, 2, 20_000)]] {
+        assert_eq!(task_1(&[20, 0], windows), (1, 5, 5, 0));
+    }
+    // With a minute it waits for the end of the window.
+    assert_eq!(task_1(&[20, 1], &[(1, 4, 9)]), (1, 9, 10, 0));
+    // At 0, where all are down, and a task behind it that is not.
+    let draft = Draft::new(0, &[0, 0], &[&[0, 0], &[3, 4]], &[(0, 1, 7)]);
+    let draft = draft.with_windows(&[(0, 0, 10), (1, 0, 5)]);
+    assert_eq!(planned(&draft), ((11, 0, 0), vec![(0, 0, 0, 0), (1, 7, 11, 0)]));
+}
+
+#[test]
+fn marker_inside_a_row() {
+    // Task 1 runs on processor 1 from 5 to 9, and task 2 has its data there at 7.
+    let rows = vec![(0, 0, 2, 0), (1, 5, 9, 0), (1, 7, 7, 0)];
+    assert_eq!(planned(&with_a_gap(3, &[&[20, 0]], &[(0, 2, 5)])), ((9, 0, 0), rows));
+    let rows = vec![(0, 0, 2, 0), (1, 5, 9, 0), (1, 9, 10, 0)];
+    assert_eq!(planned(&with_a_gap(3, &[&[20, 1]], &[(0, 2, 5)])), ((10, 0, 0), rows));
+    // Between two rows, at the end of one and the begin of the other.
+    let draft = Draft::new(0, &[0], &[&[4], &[3], &[0]], &[(0, 2, 1)]);
+    assert_eq!(order_of(&draft), [0, 1, 2]);
+    assert_eq!(planned(&draft), ((7, 0, 0), vec![(0, 0, 4, 0), (0, 4, 7, 0), (0, 4, 4, 0)]));
+}
+
+#[test]
+fn two_markers_at_one_minute() {
+    let edges = [(0, 1, 0), (0, 2, 0)];
+    let draft = Draft::new(0, &[0], &[&[5], &[0], &[0], &[1]], &edges);
+    let rows = vec![(0, 0, 5, 0), (0, 5, 5, 0), (0, 5, 5, 0), (0, 5, 6, 0)];
+    assert_eq!(planned(&draft), ((6, 0, 0), rows));
+    // One behind the other, and at 0.
+    let draft = Draft::new(0, &[0], &[&[0], &[0], &[1]], &[(0, 1, 9), (1, 2, 9)]);
+    assert_eq!(planned(&draft), ((1, 0, 0), vec![(0, 0, 0, 0), (0, 0, 0, 0), (0, 0, 1, 0)]));
+}
+
+#[test]
+fn row_across_a_marker() {
+    // R 65, 40, 28: the marker 1 is at 5 on processor 1 when task 2 is placed, which
+    // runs there from 0 to 8. If a marker took a minute, or parted the gap, it would
+    // start at 6 or 5.
+    let minutes: [&[u16]; 3] = [&[5, 20], &[40, 0], &[20, 8]];
+    let draft = Draft::new(0, &[0, 0], &minutes, &[(0, 1, 0)]);
+    assert_eq!(order_of(&draft), [0, 1, 2]);
+    assert_eq!(planned(&draft), ((8, 0, 0), vec![(0, 0, 5, 0), (1, 5, 5, 0), (1, 0, 8, 0)]));
+    // In a gap that is as long as the task.
+    let draft = draft.with_windows(&[(1, 8, 20_000)]);
+    assert_eq!(planned(&draft), ((8, 0, 0), vec![(0, 0, 5, 0), (1, 5, 5, 0), (1, 0, 8, 0)]));
+}
+
+#[test]
+fn marker_that_makes_the_length() {
+    // Tasks 0 and 1 are finished at 8 on processor 0 and at 10 on processor 1. The
+    // marker has its data at 10 + 5 on processor 0 and at 8 + 5 on processor 1.
+    let minutes: [&[u16]; 3] = [&[8, 90], &[90, 10], &[0, 0]];
+    let draft = Draft::new(0, &[0, 0], &minutes, &[(0, 2, 5), (1, 2, 5)]);
+    let plan = ((13, 0, 0), vec![(0, 0, 8, 0), (1, 0, 10, 0), (1, 13, 13, 0)]);
+    assert_eq!(planned(&draft), plan);
+    assert_eq!(planned(&Draft { deadline: Some(13), ..draft.clone() }), plan);
+    assert_eq!(refusal(&Draft { deadline: Some(12), ..draft }), (11, 13));
+}
+
+#[test]
+fn marker_with_a_minimum() {
+    // A marker for 7 behind a task for 12.
+    let draft = |budget, minimum| {
+        let draft = Draft::new(budget, &[3], &[&[4], &[0]], &[(0, 1, 0)]);
+        draft.with_minimums(&[minimum])
+    };
+    let rows = |cost| vec![(0, 0, 4, 12), (0, 4, 4, cost)];
+    assert_eq!(planned(&draft(12, None)), ((4, 12, 0), rows(0)));
+    assert_eq!(planned(&draft(19, Some(7))), ((4, 19, 0), rows(7)));
+    assert_eq!(refusal(&draft(18, Some(7))), (9, 19));
+    // Each of them is billed, at a price of 0 too.
+    let three = Draft::new(15, &[0], &[&[0], &[0], &[0]], &[]).with_minimums(&[Some(5)]);
+    assert_eq!(planned(&three), ((0, 15, 0), vec![(0, 0, 0, 5); 3]));
+    assert_eq!(refusal(&Draft { budget: 14, ..three }), (9, 15));
+}
+
+#[test]
+fn minimum_moves_a_marker() {
+    // The marker has its data at 4 on processor 0, for 7, and at 6 on processor 1, for
+    // nothing. With 19 to spend it stays beside the task: B 7, F 2, RB 7, RCB 0, scores
+    // 98 and 0. With 18 it cannot.
+    let draft = |budget| {
+        let draft = Draft::new(budget, &[3, 9], &[&[4, 90], &[0, 0]], &[(0, 1, 2)]);
+        draft.with_minimums(&[Some(7), None])
+    };
+    assert_eq!(planned(&draft(19)), ((4, 19, 0), vec![(0, 0, 4, 12), (0, 4, 4, 7)]));
+    assert_eq!(planned(&draft(18)), ((6, 12, 6), vec![(0, 0, 4, 12), (1, 6, 6, 0)]));
+}
+
+#[test]
+fn no_minutes_on_one_processor_alone() {
+    // On processor 0 task 1 takes no time and would start at 2, in the window; it
+    // waits for its minutes on processor 1. Both count in its rank.
+    let minutes: [&[u16]; 2] = [&[2, 20], &[0, 6]];
+    let draft = Draft::new(100, &[1, 1], &minutes, &[(0, 1, 3)]).with_windows(&[(0, 2, 9)]);
+    assert_eq!(ranks_of(&draft), [22 + 2 * 3 + 6, 6]);
+    assert_eq!(planned(&draft), ((2, 2, 98), vec![(0, 0, 2, 2), (0, 2, 2, 0)]));
+    // The other way round it has its data at 5 and is finished then.
+    let minutes: [&[u16]; 2] = [&[2, 20], &[6, 0]];
+    let draft = Draft::new(100, &[1, 1], &minutes, &[(0, 1, 3)]).with_windows(&[(0, 2, 9)]);
+    assert_eq!(planned(&draft), ((5, 2, 98), vec![(0, 0, 2, 2), (1, 5, 5, 0)]));
+    // A task with a minute somewhere is above what waits for it, whatever the numbers.
+    let draft = Draft::new(0, &[0, 0], &[&[0, 0], &[0, 1]], &[(1, 0, 0)]);
+    assert_eq!((ranks_of(&draft), order_of(&draft)), (vec![0, 1], vec![1, 0]));
+}
+
+#[test]
+fn markers_stay_markers_when_multiplied() {
+    let minutes: [&[u16]; 4] = [&[0, 0], &[10, 4], &[8, 0], &[0, 0]];
+    let edges = [(1, 2, 2), (2, 0, 0), (3, 1, 0)];
+    let draft = Draft::new(24, &[1, 3], &minutes, &edges).with_minimums(&[None, Some(5)]);
+    // Tasks 0 and 3 take no time, and cost nothing on processor 0; task 2 takes none on
+    // processor 1, for its minimum.
+    let rows = vec![(0, 4, 4, 0), (1, 0, 4, 12), (1, 4, 4, 5), (0, 0, 0, 0)];
+    assert_eq!(planned(&draft), ((4, 17, 7), rows));
+    let rows = vec![(0, 12, 12, 0), (1, 0, 12, 72), (1, 12, 12, 30), (0, 0, 0, 0)];
+    assert_eq!(planned(&draft.times(3, 2)), ((12, 102, 42), rows));
+}
+
+#[test]
+fn the_most_minutes() {
+    // 2,000 pass, and beside them a marker; 2,001 do not.
+    assert_eq!(starts(&on_one(&[2_000, 0, 1_999], &[])), [0, 0, 2_000]);
+    assert_eq!(refusal(&on_one(&[2_000, 2_001, 0], &[])), (4, 7 + 3 + 10 + 5 + 10));
 }
 
 // ---- Choice ----
