@@ -132,9 +132,42 @@ pub fn windows(random: &mut Random, m: usize, latest: u64) -> Vec<(u8, u32, u32)
     (0..m).flat_map(of).collect()
 }
 
+/// Makes task i a marker: 0 minutes on all processors. If it shall tie, the edges
+/// that leave it have transfer 0, so that it has the rank of a task that waits for
+/// it, if there is one.
+pub fn make_marker(draft: &mut Draft, i: usize, tie: bool) {
+    draft.tasks[i].1.fill(0);
+    let leaving = draft.edges.iter_mut().filter(|edge| tie && usize::from(edge.0) == i);
+    leaving.for_each(|edge| edge.2 = 0);
+}
+
+/// Makes one task in so many a marker.
+pub fn markers(random: &mut Random, draft: &mut Draft, one_in: u64, tie: bool) {
+    for i in 0..draft.tasks.len() {
+        if random.one_in(one_in) {
+            make_marker(draft, i, tie);
+        }
+    }
+}
+
+/// Makes one in so many of all minutes 0, so that a task may take no time on one
+/// processor and some on another.
+pub fn single_zeros(random: &mut Random, draft: &mut Draft, one_in: u64) {
+    for time in draft.tasks.iter_mut().flat_map(|task| &mut task.1) {
+        if random.one_in(one_in) {
+            *time = 0;
+        }
+    }
+}
+
+/// Whether some task takes 0 minutes on some processor.
+pub fn has_a_zero(draft: &Draft) -> bool {
+    draft.tasks.iter().any(|task| task.1.contains(&0))
+}
+
 /// A good request. Edges mostly follow a random order of the tasks; one draft
-/// in ten may have a cycle. Three in four may have `Q`s, and two in three
-/// windows. The budget lies around and above the cheapest total.
+/// in ten may have a cycle. Three in four may have `Q`s, two in three windows, and
+/// half of them minutes of 0. The budget lies around and above the cheapest total.
 pub fn draft(random: &mut Random, limits: &Limits) -> Draft {
     let n = random.within(1, limits.tasks);
     let m = random.within(1, limits.processors);
@@ -164,6 +197,16 @@ pub fn draft(random: &mut Random, limits: &Limits) -> Draft {
     draft.edges.dedup_by_key(|edge| (edge.0, edge.1));
     if !random.one_in(4) {
         draft.minimums = minimums(random, m as usize, |random, _| random.within(0, limits.minimum));
+    }
+    match random.within(1, 16) {
+        1..=3 => single_zeros(random, &mut draft, 4),
+        4 => markers(random, &mut draft, 3, false),
+        5..=7 => markers(random, &mut draft, 2, true),
+        8 => {
+            let tie = random.one_in(2);
+            markers(random, &mut draft, 1, tie);
+        }
+        _ => {}
     }
 
     let cheapest = cheapest_total(&draft);
@@ -198,7 +241,8 @@ pub fn damage(random: &mut Random, request: &mut Vec<u8>) {
 /// A good request of exactly these sizes, for readers: each number anywhere in
 /// its range and often at an end of it, labels of any bytes of the list, a
 /// deadline in every second one; three in four may have `Q`s, two in three
-/// windows. A request of n tasks has n x (n-1) edges at the most.
+/// windows, half of them minutes of 0. A request of n tasks has n x (n-1) edges at
+/// the most.
 pub fn sized(random: &mut Random, n: u64, m: u64, edges: u64) -> Draft {
     let mut draft = Draft::new(random.often_an_end(0, 20_000_000) as u32, &[], &[], &[]);
     draft.deadline = random.one_in(2).then(|| random.often_an_end(1, 200_000) as u32);
@@ -223,13 +267,16 @@ pub fn sized(random: &mut Random, n: u64, m: u64, edges: u64) -> Draft {
             left -= 1;
         }
     }
-    // Last, so that all else is the same with any minimums and windows.
+    // Last, so that all else is the same with any minimums, windows and zeros.
     if !random.one_in(4) {
         let minimum = |random: &mut Random, _| random.often_an_end(0, 10_000);
         draft.minimums = minimums(random, m as usize, minimum);
     }
     if !random.one_in(3) {
         draft.windows = windows(random, m as usize, 20_000);
+    }
+    if random.one_in(2) {
+        single_zeros(random, &mut draft, 8);
     }
     draft
 }

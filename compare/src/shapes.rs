@@ -1,11 +1,12 @@
-//! Requests for planners: workflows of every shape, with numbers, budgets, deadlines, minimums and windows that bring out
-//! ties and limits.
+//! Requests for planners: workflows of every shape, with numbers, budgets, deadlines, minimums, windows and markers that
+//! bring out ties and limits.
 
 use std::cmp::Reverse;
 
 use crate::build::Draft;
-use crate::random::{cheapest_total, minimums, windows_of, Random};
-use crate::{plan, ranks, read, schedule, Answer, Row, Workflow};
+use crate::random::Random;
+use crate::random::{cheapest_total, make_marker, markers, minimums, single_zeros, windows_of};
+use crate::{order, plan, ranks, read, schedule, Answer, Row, Workflow};
 
 /// How the edges lie. Their tasks are numbered in any order.
 #[derive(Clone, Copy, Debug, PartialEq, Eq)]
@@ -103,6 +104,25 @@ pub enum Windows {
     Long,
 }
 
+/// Which tasks take no time.
+#[derive(Clone, Copy, Debug, PartialEq, Eq)]
+pub enum Markers {
+    /// No minutes are 0.
+    None,
+    /// As in exported workflows: those that wait for none and those that none waits for, half of the time with transfer 0 on
+    /// the edges that leave them.
+    Ends,
+    /// One in three.
+    Some,
+    /// One in four of all minutes is 0, so that a task takes no time on one processor and some on another.
+    Single,
+    /// Every second, with transfer 0 on the edges that leave them. So each has the rank of a task that waits for it, if there
+    /// is one; half of the time that one has the lower number.
+    Tied,
+    /// All, half of the time with transfer 0 on all edges.
+    All,
+}
+
 pub const GRAPHS: [Graph; 7] = [
     Graph::Chain,
     Graph::Fork,
@@ -139,22 +159,38 @@ pub const WINDOWS: [Windows; 9] = [
     Windows::Long,
 ];
 
-pub type Shape = (Graph, Numbers, Budget, Deadline, Minimums, Windows);
+/// Every sort between two that are none, so that most requests have no 0.
+pub const MARKERS: [Markers; 11] = [
+    Markers::None,
+    Markers::Ends,
+    Markers::None,
+    Markers::Some,
+    Markers::None,
+    Markers::Single,
+    Markers::None,
+    Markers::Tied,
+    Markers::None,
+    Markers::All,
+    Markers::None,
+];
 
-/// How many shapes there are, but for their windows.
+pub type Shape = (Graph, Numbers, Budget, Deadline, Minimums, Windows, Markers);
+
+/// How many shapes there are, but for their windows and markers.
 pub const SHAPES: usize =
     GRAPHS.len() * NUMBERS.len() * BUDGETS.len() * DEADLINES.len() * MINIMUMS.len();
 
 /// The shapes one after the other: graphs change first, then numbers, budgets, deadlines and minimums. After the last
-/// comes the first again, with other windows: these change from each to the next, and since their number has no divisor
-/// with that of the others, nine rounds have all shapes with all windows.
+/// comes the first again, with other windows and markers: these change from each to the next. Since 9, 11 and the number
+/// of the others have no divisor in common, nine rounds have all shapes with all windows, and each round has every sort of
+/// windows and of markers with every other part.
 pub fn shape(k: usize) -> Shape {
-    let windows = WINDOWS[k % WINDOWS.len()];
+    let (windows, markers) = (WINDOWS[k % WINDOWS.len()], MARKERS[k % MARKERS.len()]);
     let (graph, k) = (GRAPHS[k % GRAPHS.len()], k / GRAPHS.len());
     let (numbers, k) = (NUMBERS[k % NUMBERS.len()], k / NUMBERS.len());
     let (budget, k) = (BUDGETS[k % BUDGETS.len()], k / BUDGETS.len());
     let (deadline, k) = (DEADLINES[k % DEADLINES.len()], k / DEADLINES.len());
-    (graph, numbers, budget, deadline, MINIMUMS[k % MINIMUMS.len()], windows)
+    (graph, numbers, budget, deadline, MINIMUMS[k % MINIMUMS.len()], windows, markers)
 }
 
 /// Good requests of every shape, one after the other; sizes up to the limits, half of them small.
@@ -190,18 +226,17 @@ fn turned(request: &[u8], change: impl Fn(&mut Workflow)) -> bool {
     rows.iter().zip(&others).any(|(row, other)| place(row) != place(other))
 }
 
-/// Whether the request has a plan in which some task starts before one that was placed earlier on its processor.
+/// Whether the request has a plan in which some task starts before one that was placed earlier on its processor, and both
+/// take some time.
 pub fn fills_a_gap(request: &[u8]) -> bool {
     let Some(rows) = planned(request) else { return false };
-    let ranks = read(request).ok().and_then(|workflow| ranks(&workflow)).expect("it has a plan");
-    let placed = |i: usize| (Reverse(ranks[i]), i);
-    let in_a_gap = |i: usize| {
-        (0..rows.len()).any(|k| {
-            let earlier = placed(k) < placed(i) && rows[k].processor == rows[i].processor;
-            earlier && rows[i].start < rows[k].start
-        })
+    let order = read(request).ok().and_then(|workflow| order(&workflow)).expect("it has a plan");
+    let placed: Vec<&Row> = order.iter().map(|&i| &rows[i]).filter(|row| !marks(row)).collect();
+    let in_a_gap = |k: usize| {
+        let mut earlier = placed[..k].iter().filter(|row| row.processor == placed[k].processor);
+        earlier.any(|row| placed[k].start < row.start)
     };
-    (0..rows.len()).any(in_a_gap)
+    (0..placed.len()).any(in_a_gap)
 }
 
 /// Whether the request has a plan in which some task costs more than its minutes: it is billed a minimum.
@@ -218,7 +253,8 @@ pub fn turned_by_minimums(request: &[u8]) -> bool {
     turned(request, |workflow| workflow.minimums.fill(0))
 }
 
-/// Whether the request has a plan in which some task starts at the minute at which a window of its processor ends.
+/// Whether the request has a plan in which some task starts at the minute at which a window of its processor ends, and
+/// takes some time.
 pub fn waits_for_a_window(request: &[u8]) -> bool {
     let Some(rows) = planned(request) else { return false };
     let windows = read(request).expect("it has a plan").windows;
@@ -227,7 +263,7 @@ pub fn waits_for_a_window(request: &[u8]) -> bool {
             (window.processor as u64, u64::from(window.end)) == (row.processor, row.start)
         })
     };
-    rows.iter().any(waits)
+    rows.iter().any(|row| !marks(row) && waits(row))
 }
 
 /// Whether the request has a plan in which some task runs elsewhere, or at other minutes, than it would if nothing were
@@ -236,11 +272,58 @@ pub fn turned_by_windows(request: &[u8]) -> bool {
     turned(request, |workflow| workflow.windows.clear())
 }
 
+/// Whether the row is a marker's: its task takes no time on its processor.
+fn marks(row: &Row) -> bool {
+    row.start == row.finish
+}
+
+/// Whether the request has a plan with a marker.
+pub fn has_a_marker(request: &[u8]) -> bool {
+    planned(request).is_some_and(|rows| rows.iter().any(marks))
+}
+
+/// Whether the request has a plan with a marker in the midst of a window of its processor: after its begin, before its end.
+pub fn marker_in_a_window(request: &[u8]) -> bool {
+    let Some(rows) = planned(request) else { return false };
+    let windows = read(request).expect("it has a plan").windows;
+    let inside = |row: &Row| {
+        windows.iter().any(|window| {
+            let (begin, end) = (u64::from(window.begin), u64::from(window.end));
+            window.processor as u64 == row.processor && begin < row.start && row.start < end
+        })
+    };
+    rows.iter().any(|row| marks(row) && inside(row))
+}
+
+/// Whether the request has a plan with a marker in the midst of another row of its processor: after its start, before its
+/// finish.
+pub fn marker_in_a_row(request: &[u8]) -> bool {
+    let Some(rows) = planned(request) else { return false };
+    let inside = |row: &Row| {
+        let mut there = rows.iter().filter(|other| other.processor == row.processor);
+        there.any(|other| other.start < row.start && row.start < other.finish)
+    };
+    rows.iter().any(|row| marks(row) && inside(row))
+}
+
+/// Whether the request has a plan whose tasks are placed in another order than that of document 01: "by falling R; equal R,
+/// lower number first".
+pub fn ordered_anew(request: &[u8]) -> bool {
+    if planned(request).is_none() {
+        return false;
+    }
+    let workflow = read(request).expect("it has a plan");
+    let ranks = ranks(&workflow).expect("it has a plan");
+    let mut before: Vec<usize> = (0..ranks.len()).collect();
+    before.sort_by_key(|&i| (Reverse(ranks[i]), i));
+    order(&workflow) != Some(before)
+}
+
 /// A good request of so many tasks and processors.
 pub fn shaped(
     random: &mut Random,
     (n, m): (usize, usize),
-    (graph, numbers, budget, deadline, least, down): Shape,
+    (graph, numbers, budget, deadline, least, down, without_time): Shape,
 ) -> Draft {
     let mut draft = Draft::new(20_000_000, &[], &[], &[]);
     draft.prices = prices(random, m, numbers);
@@ -258,6 +341,7 @@ pub fn shaped(
         };
         draft.edges.push((from, to, transfer));
     }
+    put_markers(random, &mut draft, without_time);
     draft.minimums = least_amounts(random, &draft, least);
     draft.windows = windows(random, &draft, down);
     let cheapest = cheapest_total(&draft);
@@ -270,8 +354,8 @@ pub fn shaped(
     draft.deadline = match deadline {
         Deadline::None => None,
         Deadline::Any => Some(random.within(1, 4_000) as u32),
-        // A plan with windows might end later than any deadline.
-        Deadline::Length => length(&draft).map(|length| length.min(200_000) as u32),
+        // A plan with windows might end later than any deadline, and one of markers alone before any.
+        Deadline::Length => length(&draft).map(|length| length.clamp(1, 200_000) as u32),
         Deadline::TooEarly => {
             let later = length(&draft).filter(|&length| length > 1);
             later.map(|length| length.min(200_001) as u32 - 1)
@@ -315,6 +399,28 @@ fn minutes(random: &mut Random, prices: &[u8], numbers: Numbers) -> Vec<u16> {
         Numbers::Gaps => random.within(5, 12) as u16,
     };
     prices.iter().enumerate().map(minutes).collect()
+}
+
+/// Makes markers of some tasks, for the edges that the draft has.
+fn put_markers(random: &mut Random, draft: &mut Draft, without_time: Markers) {
+    let tie = random.one_in(2);
+    match without_time {
+        Markers::None => {}
+        Markers::Ends => {
+            for i in 0..draft.tasks.len() {
+                let is = |end: u8| usize::from(end) == i;
+                let waits = draft.edges.iter().any(|edge| is(edge.1));
+                let is_waited_for = draft.edges.iter().any(|edge| is(edge.0));
+                if !(waits && is_waited_for) {
+                    make_marker(draft, i, tie);
+                }
+            }
+        }
+        Markers::Some => markers(random, draft, 3, false),
+        Markers::Single => single_zeros(random, draft, 4),
+        Markers::Tied => markers(random, draft, 2, true),
+        Markers::All => markers(random, draft, 1, tie),
+    }
 }
 
 /// The minimums, for the prices and minutes that the draft has.

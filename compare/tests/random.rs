@@ -1,16 +1,18 @@
 //! Random requests from a fixed seed: facts about every plan, worked out here
 //! from the numbers of the request, and damaged requests.
 
-use std::cmp::Reverse;
 use std::collections::HashSet;
+use std::iter::repeat_with;
 
 use compare::build::{sample, Draft};
-use compare::random::{cheapest_total, cost, damage, draft, Damage, Limits, Random, FULL, SMALL};
+use compare::random::{cheapest_total, cost, damage, draft, has_a_zero};
+use compare::random::{Damage, Limits, Random, FULL, SMALL};
 use compare::shapes::{bills_a_minimum, fills_a_gap, of_every_shape, shaped, turned_by_minimums};
+use compare::shapes::{has_a_marker, marker_in_a_row, marker_in_a_window, ordered_anew};
 use compare::shapes::{shape, turned_by_windows, waits_for_a_window};
 use compare::shapes::{Budget, Deadline, SHAPES};
-use compare::shapes::{BUDGETS, DEADLINES, GRAPHS, MINIMUMS, NUMBERS, WINDOWS};
-use compare::{label, plan, ranks, read, text, Answer, Row, REFUSALS};
+use compare::shapes::{BUDGETS, DEADLINES, GRAPHS, MARKERS, MINIMUMS, NUMBERS, WINDOWS};
+use compare::{label, order, plan, read, text, Answer, Row, REFUSALS};
 
 /// What must hold of any answer to a good request with enough rows.
 fn check(draft: &Draft, answer: Answer, rows: &[Row]) {
@@ -31,12 +33,14 @@ fn check(draft: &Draft, answer: Answer, rows: &[Row]) {
         let j = row.processor as usize;
         assert_eq!(row.finish, row.start + u64::from(draft.tasks[i].1[j]));
         assert_eq!(row.cost, cost(draft, i, j));
-        for other in &rows[i + 1..] {
-            let apart = row.finish <= other.start || other.finish <= row.start;
-            assert!(row.processor != other.processor || apart);
+        for other in rows[i + 1..].iter().filter(|other| other.processor == row.processor) {
+            assert!(!overlap((row.start, row.finish), (other.start, other.finish)));
         }
         for &(_, begin, end) in draft.windows.iter().filter(|window| usize::from(window.0) == j) {
-            assert!(row.finish <= begin.into() || u64::from(end) <= row.start);
+            assert!(!overlap((row.start, row.finish), (begin.into(), end.into())));
+        }
+        if draft.tasks[i].1[j] == 0 {
+            assert_eq!(row.start, ready(draft, rows, i, j));
         }
         // The data is there, and no earlier minute has room beside the windows
         // and the other rows: those placed later have only taken more of them.
@@ -47,6 +51,12 @@ fn check(draft: &Draft, answer: Answer, rows: &[Row]) {
     assert_eq!(total + left, u64::from(draft.budget));
     assert_eq!(length, rows.iter().map(|row| row.finish).max().unwrap());
     assert!(draft.deadline.is_none_or(|deadline| length <= u64::from(deadline)));
+}
+
+/// "Two intervals overlap when they have a minute in common": the later begin is
+/// then one.
+fn overlap((begin, end): (u64, u64), (other_begin, other_end): (u64, u64)) -> bool {
+    begin.max(other_begin) < end.min(other_end)
 }
 
 /// When what this task waits for is there, if it runs on this processor.
@@ -79,10 +89,9 @@ fn first_with_room<'a>(
         .collect();
     let ready = ready(draft, rows, task, processor);
     let minutes = u64::from(draft.tasks[task].1[processor]);
-    let overlaps = |start: u64, (begin, end)| start.max(begin) < (start + minutes).min(end);
+    let has_room = |&start: &u64| !busy.iter().any(|&busy| overlap((start, start + minutes), busy));
     let ends = busy.iter().map(|&(_, end)| end).filter(|&end| end > ready);
-    let starts = ends.chain([ready]);
-    starts.filter(|&start| !busy.iter().any(|&busy| overlaps(start, busy))).min().unwrap()
+    ends.chain([ready]).filter(has_room).min().unwrap()
 }
 
 /// Whether this task has a path back to itself and no lower task has: the
@@ -139,23 +148,28 @@ fn check_many(random: &mut Random, limits: &Limits, count: usize) {
         }
     }
     met.at_least(20, &[0, 8, 9, 11]);
-    sorts.at_least(met.0[0], &[0, 6, 6, 4, 4]);
+    sorts.at_least(met.0[0], &[0, 6, 6, 4, 4, 3, 80, 200, 12]);
 }
 
 /// Counts of plans of these sorts: with a task in a gap, with one that is billed a
 /// minimum, others without minimums, with a task that starts where a window ends,
-/// others without windows.
+/// others without windows; with a marker, with one in the midst of a window, with one
+/// in the midst of a row, placed in another order than document 01's.
 #[derive(Default)]
-struct Sorts([u64; 5]);
+struct Sorts([u64; 9]);
 
 impl Sorts {
     fn note(&mut self, request: &[u8]) {
-        let sorts: [fn(&[u8]) -> bool; 5] = [
+        let sorts: [fn(&[u8]) -> bool; 9] = [
             fills_a_gap,
             bills_a_minimum,
             turned_by_minimums,
             waits_for_a_window,
             turned_by_windows,
+            has_a_marker,
+            marker_in_a_window,
+            marker_in_a_row,
+            ordered_anew,
         ];
         for (count, sort) in self.0.iter_mut().zip(sorts) {
             *count += u64::from(sort(request));
@@ -163,7 +177,8 @@ impl Sorts {
     }
 
     /// One plan of so many is of each sort; 0 for any number.
-    fn at_least(&self, plans: u64, one_of: &[u64; 5]) {
+    fn at_least(&self, plans: u64, one_of: &[u64; 9]) {
+        println!("{:?} of {plans}", self.0);
         let enough = |(&count, &one_of): (&u64, &u64)| one_of == 0 || count >= plans / one_of;
         assert!(self.0.iter().zip(one_of).all(enough), "{:?} of {plans}", self.0);
     }
@@ -182,7 +197,9 @@ fn facts_of_full_plans() {
 /// Requests of every shape, as the proved code is asked: in one plan of six some
 /// task is in a gap, in one of six some is billed a minimum, and as many are
 /// other plans than without minimums; in one of four some task starts where a
-/// window ends, and every third is another plan than without windows.
+/// window ends, and every third is another plan than without windows. Every third
+/// has a marker, one of 40 one in the midst of a window, one of 80 one in the midst
+/// of a row, and one of eight is placed in another order than document 01's.
 #[test]
 fn facts_of_plans_of_every_shape() {
     let mut met = Met::default();
@@ -198,27 +215,41 @@ fn facts_of_plans_of_every_shape() {
         }
     }
     met.at_least(200, &[0, 8, 9, 11]);
-    sorts.at_least(met.0[0], &[6, 6, 6, 4, 3]);
+    sorts.at_least(met.0[0], &[6, 6, 6, 4, 3, 3, 40, 80, 8]);
 }
 
 /// Nine rounds of the shapes have each with each sort of windows, and one round has
-/// each sort with each of the other parts.
+/// each sort of windows and of markers with each of the other parts.
 #[test]
 fn every_shape_with_every_sort_of_windows() {
     let rounds = WINDOWS.len() * SHAPES;
-    let all: HashSet<String> = (0..rounds).map(|k| format!("{:?}", shape(k))).collect();
+    let but_markers = |k: usize| {
+        let (graph, numbers, budget, deadline, least, down, _) = shape(k);
+        (graph, numbers, budget, deadline, least, down)
+    };
+    let all: HashSet<String> = (0..rounds).map(|k| format!("{:?}", but_markers(k))).collect();
     assert_eq!(all.len(), rounds);
-    assert_eq!(shape(rounds), shape(0));
+    assert_eq!(but_markers(rounds), but_markers(0));
+    assert_eq!(shape(MARKERS.len() * rounds), shape(0));
     let parts = |k: usize| {
-        let (graph, numbers, budget, deadline, least, down) = shape(k);
+        let (graph, numbers, budget, deadline, least, down, without_time) = shape(k);
         let (graph, numbers) = (format!("{graph:?}"), format!("{numbers:?}"));
         let (budget, deadline) = (format!("{budget:?}"), format!("{deadline:?}"));
-        let parts = [graph, numbers, budget, deadline, format!("{least:?}")];
-        parts.into_iter().enumerate().map(move |(i, part)| (i, part, format!("{down:?}")))
+        let (least, down) = (format!("{least:?}"), format!("{down:?}"));
+        ([graph, numbers, budget, deadline, least], down, format!("{without_time:?}"))
     };
-    let pairs: HashSet<(usize, String, String)> = (0..SHAPES).flat_map(parts).collect();
+    let (mut with_windows, mut with_markers) = (HashSet::new(), HashSet::new());
+    for (parts, down, without_time) in (0..SHAPES).map(parts) {
+        for (i, part) in parts.into_iter().chain([down.clone()]).enumerate() {
+            with_windows.insert((i, part.clone(), down.clone()));
+            with_markers.insert((i, part, without_time.clone()));
+        }
+    }
     let others = GRAPHS.len() + NUMBERS.len() + BUDGETS.len() + DEADLINES.len() + MINIMUMS.len();
-    assert_eq!(pairs.len(), others * WINDOWS.len());
+    // Windows themselves are the last of the parts.
+    assert_eq!(with_windows.len(), (others + 1) * WINDOWS.len());
+    let sorts: HashSet<String> = MARKERS.iter().map(|sort| format!("{sort:?}")).collect();
+    assert_eq!(with_markers.len(), (others + WINDOWS.len()) * sorts.len());
 }
 
 /// "Once the cheapest total fits, I believe the cheapest processor can always
@@ -236,7 +267,8 @@ fn the_cheapest_processor_can_always_be_taken() {
         let m = random.often_an_end(1, widest) as usize;
         let (graph, numbers) = (random.one_of(graphs), random.one_of(&NUMBERS));
         let (least, down) = (random.one_of(&MINIMUMS), random.one_of(&WINDOWS));
-        let shape = (graph, numbers, Budget::Cheapest, Deadline::None, least, down);
+        let without_time = random.one_of(&MARKERS);
+        let shape = (graph, numbers, Budget::Cheapest, Deadline::None, least, down, without_time);
         let mut draft = shaped(&mut random, (n, m), shape);
         let cheapest = cheapest_total(&draft);
         for more in [0, 1, random.within(2, cheapest + 2)] {
@@ -254,9 +286,8 @@ fn the_cheapest_processor_can_always_be_taken() {
 /// against its row. Gives how many tasks the budget kept from their best.
 fn placed_again(draft: &Draft, rows: &[Row]) -> usize {
     let (n, m) = (draft.tasks.len(), draft.prices.len());
-    let ranks = ranks(&read(&draft.bytes()).unwrap()).unwrap();
-    let mut order: Vec<usize> = (0..n).collect();
-    order.sort_by_key(|&i| (Reverse(ranks[i]), i));
+    let order = order(&read(&draft.bytes()).unwrap()).unwrap();
+    assert_eq!(order.len(), n);
     let (mut rb, mut rcb) = (u64::from(draft.budget), cheapest_total(draft));
     let mut kept_from_best = 0;
     for (placed, &i) in order.iter().enumerate() {
@@ -286,7 +317,7 @@ fn placed_again(draft: &Draft, rows: &[Row]) -> usize {
 fn multiplied_requests() {
     let mut random = Random(0xA076_1D64_78BD_642F);
     let mut met = Met::default();
-    let (mut billed, mut turned) = (0, 0);
+    let (mut billed, mut turned, mut marked, mut anew) = (0, 0, 0, 0);
     for _ in 0..20_000 {
         let draft = draft(&mut random, &SMALL);
         let (a, b) = (random.within(1, 7), random.within(1, 7));
@@ -316,10 +347,81 @@ fn multiplied_requests() {
         met.note(answer);
         billed += u64::from(bills_a_minimum(&draft.bytes()));
         turned += u64::from(turned_by_windows(&draft.bytes()));
+        marked += u64::from(has_a_marker(&draft.bytes()));
+        anew += u64::from(ordered_anew(&draft.bytes()));
     }
     met.at_least(20, &[0, 8, 9, 11]);
     assert!(billed >= 5_000, "{billed}");
     assert!(turned >= 5_000, "{turned}");
+    assert!(marked >= 5_000 && anew >= 1_000, "{marked} {anew}");
+}
+
+/// A first and a last task that take no time, with any numbers and transfer 0 on
+/// their edges, as in exported workflows: the other tasks are planned as without them,
+/// if some processor bills no minimum. The first is at 0, and the last where the plan
+/// ends.
+#[test]
+fn a_first_and_a_last_marker_change_nothing() {
+    let mut random = Random(0x0A9A_5EED_0000_0004);
+    let (mut met, mut anew) = (Met::default(), 0);
+    for round in 0..10_000 {
+        let limits = if round % 10 == 0 { &FULL } else { &SMALL };
+        let mut draft = draft(&mut random, limits);
+        // Room for two tasks more, and for their edges.
+        draft.tasks.truncate(62);
+        let n = draft.tasks.len();
+        draft.edges.retain(|edge| usize::from(edge.0.max(edge.1)) < n);
+        draft.edges.truncate(300);
+        let free = random.within(0, draft.prices.len() as u64 - 1) as usize;
+        draft.minimums.resize(draft.prices.len(), None);
+        draft.minimums[free] = random.one_of(&[None, Some(0)]);
+
+        let first = random.within(0, n as u64 + 1) as u8;
+        let last = random.within(0, n as u64) as u8;
+        let last = last + u8::from(last >= first);
+        let numbers: Vec<u8> = (0..n as u8 + 2).filter(|i| ![first, last].contains(i)).collect();
+        let of = |i: u8| numbers[usize::from(i)];
+        let mut more = draft.clone();
+        for i in [first.min(last), first.max(last)] {
+            more.tasks.insert(i.into(), ("mark".to_string(), vec![0; draft.prices.len()]));
+        }
+        more.edges = draft.edges.iter().map(|&(from, to, c)| (of(from), of(to), c)).collect();
+        for i in 0..n as u8 {
+            if draft.edges.iter().all(|edge| edge.1 != i) {
+                more.edges.push((first, of(i), 0));
+            }
+            if draft.edges.iter().all(|edge| edge.0 != i) {
+                more.edges.push((of(i), last, 0));
+            }
+        }
+        more.edges.sort();
+
+        let (mut rows, mut more_rows) = ([Row::default(); 64], [Row::default(); 64]);
+        let answer = plan(&draft.bytes(), &mut rows);
+        let expected = match answer {
+            Answer::Planned { n, length, cost, left } => {
+                Answer::Planned { n: n + 2, length, cost, left }
+            }
+            Answer::Refused { number: 8, place } => {
+                Answer::Refused { number: 8, place: of(place as u8).into() }
+            }
+            refused => refused,
+        };
+        assert_eq!(plan(&more.bytes(), &mut more_rows), expected, "{more:?}");
+        if let Answer::Planned { length, .. } = answer {
+            for (row, &i) in rows.iter().zip(&numbers) {
+                assert_eq!(more_rows[usize::from(i)], *row, "{more:?}");
+            }
+            for (i, at) in [(first, 0), (last, length)] {
+                let Row { start, finish, cost, .. } = more_rows[usize::from(i)];
+                assert_eq!((start, finish, cost), (at, at, 0), "{more:?}");
+            }
+        }
+        anew += u64::from(ordered_anew(&more.bytes()));
+        met.note(answer);
+    }
+    met.at_least(100, &[0, 8, 9, 11]);
+    assert!(anew >= 1_000, "{anew}");
 }
 
 /// A window whose end is multiplied past 20,000 is refused in reading, and the
@@ -386,14 +488,16 @@ fn windows_that_change_nothing() {
 }
 
 /// Where all processors are down at first, for the same minutes, the plan is the
-/// one that begins then: all starts are as much later, and so are the windows.
+/// one that begins then: all starts are as much later, and so are the windows. But
+/// a marker does not wait for the windows, so these requests have none.
 #[test]
 fn all_down_at_first_is_a_later_plan() {
     let mut random = Random(0x0A5A_5EED_0000_0006);
     let (mut met, mut waiting) = (Met::default(), 0);
     for round in 0..5_000 {
         let limits = if round % 10 == 0 { &FULL } else { &SMALL };
-        let mut draft = draft(&mut random, limits);
+        let mut drawn = repeat_with(|| draft(&mut random, limits));
+        let mut draft = drawn.find(|draft| !has_a_zero(draft)).unwrap();
         draft.deadline = None;
         let later = random.often_an_end(1, 20_000 - limits.window.min(19_000)) as u32;
         let m = draft.prices.len() as u8;
@@ -515,8 +619,8 @@ fn damaged_windows() {
 }
 
 /// "A `P` may stand beside a `Q` with minimum 0": the same answer and rows, where
-/// some `P`s become such `Q`s, and such `Q`s `P`s. Where a minute costs something,
-/// a minimum of 1 is no other.
+/// some `P`s become such `Q`s, and such `Q`s `P`s. Where each task takes a minute, and
+/// a minute costs something, a minimum of 1 is no other.
 #[test]
 fn a_minimum_of_0_is_none() {
     let mut random = Random(0x0A4A_5EED_0000_0001);
@@ -525,12 +629,13 @@ fn a_minimum_of_0_is_none() {
         let limits = if round % 10 == 0 { &FULL } else { &SMALL };
         let mut draft = draft(&mut random, limits);
         let before = draft.bytes();
+        let each_costs = !has_a_zero(&draft);
         draft.minimums.resize(draft.prices.len(), None);
         for (minimum, &price) in draft.minimums.iter_mut().zip(&draft.prices) {
             match minimum {
                 Some(0) => *minimum = None,
                 None if random.one_in(2) => {
-                    *minimum = Some(u16::from(price > 0 && random.one_in(4)))
+                    *minimum = Some(u16::from(each_costs && price > 0 && random.one_in(4)))
                 }
                 _ => {}
             }
