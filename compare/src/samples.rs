@@ -17,6 +17,7 @@ pub fn all() -> Vec<(&'static str, Vec<u8>)> {
         ("gap", gap().bytes()),
         ("minimum", minimum.bytes()),
         ("windows", windows.bytes()),
+        ("markers", markers().bytes()),
         ("ten", ten().bytes()),
     ]
 }
@@ -26,6 +27,16 @@ fn gap() -> Draft {
     let mut draft = sample(31);
     draft.tasks.push(("note".to_string(), vec![3, 6]));
     draft
+}
+
+/// The sample's two last tasks, as a program might export them: with a first task, one
+/// behind both and a last one that take no time. The last has the lowest number, and
+/// the rank of the one before it.
+fn markers() -> Draft {
+    let minutes: [&[u16]; 5] = [&[0, 0], &[8, 4], &[6, 2], &[0, 0], &[0, 0]];
+    let edges = [(1, 3, 2), (2, 3, 3), (3, 0, 0), (4, 1, 0), (4, 2, 0)];
+    let draft = Draft::new(20, &[1, 3], &minutes, &edges);
+    labelled(draft, &["end", "left", "right", "join", "start"])
 }
 
 /// Ten tasks of a small analysis on three machines, with a deadline.
@@ -62,6 +73,11 @@ fn ten() -> Draft {
         "fetch", "clean-a", "clean-b", "index", "align-a", "align-b", "count", "norm", "model",
         "report",
     ];
+    labelled(draft, &labels)
+}
+
+/// The same with these for labels.
+fn labelled(mut draft: Draft, labels: &[&str]) -> Draft {
     for (task, label) in draft.tasks.iter_mut().zip(labels) {
         task.0 = label.to_string();
     }

@@ -7,7 +7,8 @@ use std::io::Write;
 use std::process::{Command, Stdio};
 
 use compare::build::{d, e, h, m, p, q, sample, t, w, z, Draft};
-use compare::{label, plan, ranks, read, text, Answer, Refusal, Row, Window, MOST_BYTES};
+use compare::{label, order, plan, ranks, read, samples, text};
+use compare::{Answer, Refusal, Row, Window, MOST_BYTES};
 
 const H: usize = 7;
 const D: usize = 5;
@@ -943,6 +944,27 @@ fn s28_with_a_start_and_an_end() {
     let dated = |deadline| answer(&Draft { deadline: Some(deadline), ..draft.clone() }.bytes());
     assert_eq!(dated(14), planned(5, 14, 26, 2));
     assert_eq!(dated(13), refused(11, 14));
+}
+
+/// The sample with markers: the last task has the lowest number, and the rank of the
+/// one before it, after which it is placed; the first has the highest, and the rank of
+/// `left`. By document 01's order `end` would be at 0.
+#[test]
+fn the_sample_with_markers() {
+    let all = samples::all();
+    let (_, request) = all.iter().find(|(name, _)| *name == "markers").unwrap();
+    let expected = b"H\x05\x02\x14\0\0\0P\0\x01P\x01\x03\
+        T\0end     W\0\0\0\0W\0\x01\0\0T\x01left    W\x01\0\x08\0W\x01\x01\x04\0\
+        T\x02right   W\x02\0\x06\0W\x02\x01\x02\0T\x03join    W\x03\0\0\0W\x03\x01\0\0\
+        T\x04start   W\x04\0\0\0W\x04\x01\0\0\
+        E\x01\x03\x02\0E\x02\x03\x03\0E\x03\0\0\0E\x04\x01\0\0E\x04\x02\0\0Z";
+    assert_eq!(request, expected);
+    let workflow = read(request).unwrap();
+    assert_eq!(ranks(&workflow), Some(vec![0, 16, 14, 0, 16]));
+    assert_eq!(order(&workflow), Some(vec![4, 1, 2, 3, 0]));
+    let expected = "plan 5 6 18 2\nend 0 6 6 0\nleft 1 0 4 12\nright 0 0 6 6\n\
+        join 0 6 6 0\nstart 0 0 0 0\n";
+    assert_eq!(text(request), expected.as_bytes());
 }
 
 // ---- Refusals after reading ----
