@@ -4,8 +4,9 @@
 use std::cmp::Reverse;
 
 use crate::build::Draft;
-use crate::random::Random;
-use crate::random::{cheapest_total, make_marker, markers, minimums, single_zeros, windows_of};
+use crate::plan::schedule_in;
+use crate::random::{cheapest_total, make_marker, markers, minimums};
+use crate::random::{single_zeros, windows_of, Random};
 use crate::{order, plan, ranks, read, schedule, Answer, Row, Workflow};
 
 /// How the edges lie. Their tasks are numbered in any order.
@@ -222,8 +223,13 @@ fn turned(request: &[u8], change: impl Fn(&mut Workflow)) -> bool {
     change(&mut workflow);
     let mut others = [Row::default(); 64];
     schedule(&workflow, &mut others);
+    elsewhere(&rows, &others)
+}
+
+/// Whether some row has another processor, or other minutes, in these.
+fn elsewhere(rows: &[Row], others: &[Row]) -> bool {
     let place = |row: &Row| (row.processor, row.start);
-    rows.iter().zip(&others).any(|(row, other)| place(row) != place(other))
+    rows.iter().zip(others).any(|(row, other)| place(row) != place(other))
 }
 
 /// Whether the request has a plan in which some task starts before one that was placed earlier on its processor, and both
@@ -306,17 +312,32 @@ pub fn marker_in_a_row(request: &[u8]) -> bool {
     rows.iter().any(|row| marks(row) && inside(row))
 }
 
-/// Whether the request has a plan whose tasks are placed in another order than that of document 01: "by falling R; equal R,
-/// lower number first".
+/// Document 01's order: "Tasks are placed by falling R; equal R, lower number first."
+fn order_before(ranks: &[i64]) -> Vec<usize> {
+    let mut order: Vec<usize> = (0..ranks.len()).collect();
+    order.sort_by_key(|&i| (Reverse(ranks[i]), i));
+    order
+}
+
+/// Whether the request has a plan whose tasks are placed in another order than document 01's.
 pub fn ordered_anew(request: &[u8]) -> bool {
     if planned(request).is_none() {
         return false;
     }
     let workflow = read(request).expect("it has a plan");
-    let ranks = ranks(&workflow).expect("it has a plan");
-    let mut before: Vec<usize> = (0..ranks.len()).collect();
-    before.sort_by_key(|&i| (Reverse(ranks[i]), i));
-    order(&workflow) != Some(before)
+    let before = ranks(&workflow).map(|ranks| order_before(&ranks));
+    order(&workflow) != before
+}
+
+/// Whether the request has a plan in which some task runs elsewhere, or at other minutes, than it would in document 01's
+/// order.
+pub fn turned_by_order(request: &[u8]) -> bool {
+    let Some(rows) = planned(request) else { return false };
+    let mut workflow = read(request).expect("it has a plan");
+    workflow.deadline = None;
+    let mut others = [Row::default(); 64];
+    schedule_in(|ranks, _| order_before(ranks), &workflow, &mut others);
+    elsewhere(&rows, &others)
 }
 
 /// A good request of so many tasks and processors.

@@ -9,7 +9,7 @@ use compare::random::{cheapest_total, cost, damage, draft, has_a_zero};
 use compare::random::{Damage, Limits, Random, FULL, SMALL};
 use compare::shapes::{bills_a_minimum, fills_a_gap, of_every_shape, shaped, turned_by_minimums};
 use compare::shapes::{has_a_marker, marker_in_a_row, marker_in_a_window, ordered_anew};
-use compare::shapes::{shape, turned_by_windows, waits_for_a_window};
+use compare::shapes::{shape, turned_by_order, turned_by_windows, waits_for_a_window};
 use compare::shapes::{Budget, Deadline, SHAPES};
 use compare::shapes::{BUDGETS, DEADLINES, GRAPHS, MARKERS, MINIMUMS, NUMBERS, WINDOWS};
 use compare::{label, order, plan, read, text, Answer, Row, REFUSALS};
@@ -148,19 +148,19 @@ fn check_many(random: &mut Random, limits: &Limits, count: usize) {
         }
     }
     met.at_least(20, &[0, 8, 9, 11]);
-    sorts.at_least(met.0[0], &[0, 6, 6, 4, 4, 3, 80, 200, 12]);
+    sorts.at_least(met.0[0], &[0, 6, 6, 4, 4, 3, 80, 200, 12, 150]);
 }
 
 /// Counts of plans of these sorts: with a task in a gap, with one that is billed a
 /// minimum, others without minimums, with a task that starts where a window ends,
 /// others without windows; with a marker, with one in the midst of a window, with one
-/// in the midst of a row, placed in another order than document 01's.
+/// in the midst of a row, placed in another order than document 01's, others in that.
 #[derive(Default)]
-struct Sorts([u64; 9]);
+struct Sorts([u64; 10]);
 
 impl Sorts {
     fn note(&mut self, request: &[u8]) {
-        let sorts: [fn(&[u8]) -> bool; 9] = [
+        let sorts: [fn(&[u8]) -> bool; 10] = [
             fills_a_gap,
             bills_a_minimum,
             turned_by_minimums,
@@ -170,6 +170,7 @@ impl Sorts {
             marker_in_a_window,
             marker_in_a_row,
             ordered_anew,
+            turned_by_order,
         ];
         for (count, sort) in self.0.iter_mut().zip(sorts) {
             *count += u64::from(sort(request));
@@ -177,7 +178,7 @@ impl Sorts {
     }
 
     /// One plan of so many is of each sort; 0 for any number.
-    fn at_least(&self, plans: u64, one_of: &[u64; 9]) {
+    fn at_least(&self, plans: u64, one_of: &[u64; 10]) {
         println!("{:?} of {plans}", self.0);
         let enough = |(&count, &one_of): (&u64, &u64)| one_of == 0 || count >= plans / one_of;
         assert!(self.0.iter().zip(one_of).all(enough), "{:?} of {plans}", self.0);
@@ -199,7 +200,8 @@ fn facts_of_full_plans() {
 /// other plans than without minimums; in one of four some task starts where a
 /// window ends, and every third is another plan than without windows. Every third
 /// has a marker, one of 40 one in the midst of a window, one of 80 one in the midst
-/// of a row, and one of eight is placed in another order than document 01's.
+/// of a row; one of eight is placed in another order than document 01's, and one of
+/// 40 is another plan in that.
 #[test]
 fn facts_of_plans_of_every_shape() {
     let mut met = Met::default();
@@ -215,7 +217,7 @@ fn facts_of_plans_of_every_shape() {
         }
     }
     met.at_least(200, &[0, 8, 9, 11]);
-    sorts.at_least(met.0[0], &[6, 6, 6, 4, 3, 3, 40, 80, 8]);
+    sorts.at_least(met.0[0], &[6, 6, 6, 4, 3, 3, 40, 80, 8, 40]);
 }
 
 /// Nine rounds of the shapes have each with each sort of windows, and one round has

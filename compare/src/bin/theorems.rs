@@ -4,9 +4,10 @@
 
 use std::iter::repeat_with;
 
-use compare::build::sample;
+use compare::build::{sample, Draft};
 use compare::random::{damage, draft, Damage, Limits, Random};
 use compare::shapes::{bills_a_minimum, fills_a_gap, turned_by_minimums};
+use compare::shapes::{marker_in_a_row, marker_in_a_window, ordered_anew, turned_by_order};
 use compare::shapes::{turned_by_windows, waits_for_a_window};
 use compare::{plan, text, Answer, Row, REFUSALS};
 
@@ -24,14 +25,19 @@ const TINY: Limits = Limits {
 
 /// As many requests as they come, and as many more of each sort that is rare among them or matters most: with a task in a
 /// gap, with a task that is billed a minimum, with a plan that is another without minimums, with a task that starts where
-/// a window ends, with a plan that is another without windows, for each refusal, and for each that reading can give at a
-/// `Q` and at an `M`.
+/// a window ends, with a plan that is another without windows, with a marker in the midst of a window and in the midst of a
+/// row, with a plan whose tasks are placed in another order than document 01's, and which is another by that, for each
+/// refusal, and for each that reading can give at a `Q` and at an `M`.
 const ANY: usize = 80;
 const GAPS: usize = 40;
 const BILLED: usize = 20;
 const TURNED: usize = 20;
 const WAITING: usize = 20;
 const TURNED_BY_WINDOWS: usize = 20;
+const IN_A_WINDOW: usize = 5;
+const IN_A_ROW: usize = 5;
+const ORDERED_ANEW: usize = 5;
+const TURNED_BY_ORDER: usize = 11;
 const REFUSED: usize = 2;
 const REFUSED_AT_Q: usize = 5;
 const REFUSED_AT_M: usize = 6;
@@ -69,6 +75,8 @@ fn requests() -> Vec<Vec<u8>> {
     let down = |begin, end| sample(28).with_windows(&[(1, begin, end)]).bytes();
     requests.extend([least(10_000), least(10_001)]);
     requests.extend([down(4, 20_000), down(4, 20_001), down(19_999, 20_000)]);
+    let taking = |minutes: u16| Draft::new(28, &[1, 3], &[&[0, minutes]], &[]).bytes();
+    requests.extend([taking(2_000), taking(2_001)]);
     // Four windows of a processor, and five.
     let windows = [(0, 0, 1), (0, 1, 3), (0, 5, 8), (0, 9, 10), (0, 10, 11)];
     requests.extend([4, 5].map(|count| sample(28).with_windows(&windows[..count]).bytes()));
@@ -80,6 +88,10 @@ fn requests() -> Vec<Vec<u8>> {
     more(TURNED, &turned_by_minimums);
     more(WAITING, &waits_for_a_window);
     more(TURNED_BY_WINDOWS, &turned_by_windows);
+    more(IN_A_WINDOW, &marker_in_a_window);
+    more(IN_A_ROW, &marker_in_a_row);
+    more(ORDERED_ANEW, &ordered_anew);
+    more(TURNED_BY_ORDER, &turned_by_order);
     // Refusal 7 cannot be had from the printed text.
     for number in REFUSALS.into_iter().filter(|&number| number != 7) {
         more(REFUSED, &|request| refusal(request).is_some_and(|(given, _)| given == number));
