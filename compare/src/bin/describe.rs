@@ -38,7 +38,8 @@ fn described(request: &[u8]) -> String {
         let stops = refusal.as_ref().is_some_and(|refusal| refusal.place as usize == at);
         let mark = if stops { ">>" } else { "  " };
         let text = record(&request[at..end]);
-        writeln!(out, "{mark}{at:6}  {text}").expect("a string takes all");
+        let more = if is_marker(request, at) { ", a marker" } else { "" };
+        writeln!(out, "{mark}{at:6}  {text}{more}").expect("a string takes all");
         at = end;
         if stops {
             break;
@@ -71,6 +72,16 @@ fn size(kind: u8) -> usize {
         b'M' | b'T' => 10,
         _ => 1,
     }
+}
+
+/// Whether a task stands here that takes no time anywhere: behind its `T` as many `W`s of 0 minutes as there are processors.
+fn is_marker(request: &[u8], at: usize) -> bool {
+    let (Some(&processors), Some(behind)) = (request.get(2), request.get(at + size(b'T')..)) else {
+        return false;
+    };
+    let of_task = behind.chunks_exact(size(b'W')).take(processors.into());
+    let none = of_task.filter(|minutes| matches!(minutes, [b'W', _, _, 0, 0])).count();
+    request[at] == b'T' && none == usize::from(processors)
 }
 
 /// A record in words, whatever its numbers are. One that is cut short says so.
@@ -116,7 +127,7 @@ fn reason(number: u64) -> &'static str {
 #[cfg(test)]
 mod tests {
     use super::described;
-    use compare::build::sample;
+    use compare::build::{sample, Draft};
 
     #[test]
     fn a_good_request() {
@@ -165,6 +176,28 @@ mod tests {
         assert!(text.contains("Reading stops at byte 13 with refusal 4"), "{text}");
         let text = described(&request[..22]);
         assert!(text.contains(">>    13  M  cut short: 9 of 10 bytes\n"), "{text}");
+    }
+
+    #[test]
+    fn markers() {
+        let minutes: [&[u16]; 3] = [&[0, 0], &[0, 4], &[6, 0]];
+        let request = Draft::new(28, &[1, 3], &minutes, &[]).bytes();
+        let text = described(&request);
+        assert!(text.contains("      13  T  task 0, label \"t0      \", a marker\n"), "{text}");
+        assert!(text.contains("      23  W  task 0 on processor 0: 0 minutes\n"), "{text}");
+        assert!(text.contains("      33  T  task 1, label \"t1      \"\n"), "{text}");
+        assert!(text.contains("      43  W  task 1 on processor 0: 0 minutes\n"), "{text}");
+        assert!(text.contains("      53  T  task 2, label \"t2      \"\n"), "{text}");
+        assert_eq!(text.matches("marker").count(), 1, "{text}");
+        // Cut in its last `W`, it might take some time there.
+        let text = described(&request[..32]);
+        assert!(text.contains("      13  T  task 0, label \"t0      \"\n"), "{text}");
+        assert!(text.contains(">>    28  W  cut short: 4 of 5 bytes\n"), "{text}");
+        assert!(described(b"T").contains(">>     0  T  cut short: 1 of 10 bytes\n"));
+
+        let request = Draft::new(28, &[1], &[&[2_001]], &[]).bytes();
+        let text = described(&request);
+        assert!(text.contains(">>    20  W  task 0 on processor 0: 2001 minutes\n"), "{text}");
     }
 
     #[test]
