@@ -1,7 +1,7 @@
 //! The example for C, built with the header and the proved library, prints what the independent program prints.
 use compare::random::{Damage, Random};
 use compare::samples;
-use compare::shapes::{shaped, Budget, Deadline, Graph, Minimums, Numbers, WINDOWS};
+use compare::shapes::{shaped, Budget, Deadline, Graph, Minimums, Numbers, MARKERS, WINDOWS};
 use std::io::Write;
 use std::process::{Command, Stdio};
 
@@ -32,9 +32,9 @@ fn the_samples() {
 fn large_and_damaged_requests() {
     let mut random = Random(0xc0de_5eed_0000_0001);
     for (k, damage) in Damage::ALL.into_iter().enumerate() {
-        let (numbers, windows) = (Numbers::Any, WINDOWS[k % WINDOWS.len()]);
-        let (budget, deadline, least) = (Budget::Tight, Deadline::None, Minimums::Near);
-        let shape = (Graph::Dense, numbers, budget, deadline, least, windows);
+        let (windows, markers) = (WINDOWS[k % WINDOWS.len()], MARKERS[k % MARKERS.len()]);
+        let (numbers, budget, deadline) = (Numbers::Any, Budget::Tight, Deadline::None);
+        let shape = (Graph::Dense, numbers, budget, deadline, Minimums::Near, windows, markers);
         let mut request = shaped(&mut random, (64, 16), shape).bytes();
         assert_eq!(printed(&request), compare::text(&request), "{request:?}");
         damage.to(&mut random, &mut request);

@@ -4,6 +4,8 @@ use against::{columns_before, Columns, Driver};
 use compare::build::{sample, Draft};
 use compare::random::{windows_of, Damage, Random};
 use compare::shapes::{bills_a_minimum, fills_a_gap, of_every_shape, turned_by_minimums};
+use compare::shapes::{has_a_marker, marker_in_a_row, marker_in_a_window};
+use compare::shapes::{ordered_anew, turned_by_order};
 use compare::shapes::{turned_by_windows, waits_for_a_window, SHAPES, WINDOWS};
 use compare::{Row, REFUSALS};
 use std::collections::BTreeMap;
@@ -109,6 +111,68 @@ fn windows_around_the_minutes() {
     each_often(&agree(requests), &[0], 20_000);
 }
 
+/// The sample with any of its six minutes 0, and every budget up to one more than it needs.
+#[test]
+fn the_sample_with_any_zeros() {
+    let zeros = (0..64).flat_map(|zeros: usize| (0..32).map(move |budget| (zeros, budget)));
+    for minimums in [[None; 2], [Some(1), None], [None, Some(10)], [Some(7), Some(1)]] {
+        let requests = zeros.clone().map(|(zeros, budget)| {
+            let mut draft = sample(budget).with_minimums(&minimums);
+            for k in (0..6).filter(|k| zeros >> k & 1 == 1) {
+                draft.tasks[k / 2].1[k % 2] = 0;
+            }
+            (draft.bytes(), [3; 4])
+        });
+        each_often(&agree(requests), &[0, 9], 300);
+    }
+}
+
+/// Up to nine tasks on up to three processors, numbered in any order; many minutes and transfers are 0, so that markers
+/// stand in windows and rows, and many tasks have the rank of one that they wait for.
+#[test]
+fn markers_among_windows_and_rows() {
+    let mut random = Random(0x600d_5eed_0000_0005);
+    let (mut marked, mut in_windows, mut in_rows, mut anew, mut turned) = (0, 0, 0, 0, 0);
+    let requests = (0..40_000).map(|_| {
+        let (n, m) = (random.within(3, 9) as usize, random.within(1, 3) as usize);
+        let mut draft = Draft::new(0, &vec![0; m], &[], &[]);
+        for i in 0..n {
+            let all = random.one_in(3);
+            let mut time = || if all || random.one_in(6) { 0 } else { random.within(1, 9) as u16 };
+            draft.tasks.push((format!("t{i}"), (0..m).map(|_| time()).collect()));
+        }
+        let mut order: Vec<u8> = (0..n as u8).collect();
+        for i in (1..n).rev() {
+            order.swap(i, random.within(0, i as u64) as usize);
+        }
+        for (from, to) in (1..n).flat_map(|to| (0..to).map(move |from| (from, to))) {
+            if random.one_in(3) {
+                let transfer = random.one_of(&[0, 0, 0, 1, 3, 5]);
+                draft.edges.push((order[from], order[to], transfer));
+            }
+        }
+        draft.edges.sort();
+        for j in 0..m {
+            let count = random.within(0, 2);
+            draft.windows.extend(windows_of(&mut random, j, count, (0, 20)));
+        }
+        let request = draft.bytes();
+        marked += usize::from(has_a_marker(&request));
+        in_windows += usize::from(marker_in_a_window(&request));
+        in_rows += usize::from(marker_in_a_row(&request));
+        anew += usize::from(ordered_anew(&request));
+        turned += usize::from(turned_by_order(&request));
+        (request, [n; 4])
+    });
+    each_often(&agree(requests), &[0], 40_000);
+    println!("{marked} plans have a marker, {in_windows} one in the midst of a window, {in_rows} one in the midst of a row");
+    println!("{anew} are placed in another order than document 01's, {turned} are others in that");
+    assert!(marked >= 20_000, "{marked} plans have a marker");
+    assert!(in_windows >= 2_000, "{in_windows} plans have a marker in the midst of a window");
+    assert!(in_rows >= 1_000, "{in_rows} plans have a marker in the midst of a row");
+    assert!(anew >= 4_000 && turned >= 800, "{anew} ordered anew, {turned} turned by it");
+}
+
 /// One processor, one task of 12 by its minutes, and minimums around that; and with a price of 0.
 #[test]
 fn minimums_around_the_minutes() {
@@ -129,6 +193,7 @@ fn minimums_around_the_minutes() {
 fn good_requests_of_every_shape() {
     let mut random = Random(0x600d_5eed_0000_0001);
     let (mut gaps, mut billed, mut turned, mut waiting, mut moved) = (0, 0, 0, 0, 0);
+    let (mut marked, mut in_windows, mut in_rows, mut anew, mut reordered) = (0, 0, 0, 0, 0);
     let met = agree(good(0x600d_5eed_0000_0002, WINDOWS.len() * SHAPES).map(|(request, n)| {
         let lent = lent(&mut random, n);
         if lent.iter().all(|&rows| rows >= n) {
@@ -137,6 +202,11 @@ fn good_requests_of_every_shape() {
             turned += usize::from(turned_by_minimums(&request));
             waiting += usize::from(waits_for_a_window(&request));
             moved += usize::from(turned_by_windows(&request));
+            marked += usize::from(has_a_marker(&request));
+            in_windows += usize::from(marker_in_a_window(&request));
+            in_rows += usize::from(marker_in_a_row(&request));
+            anew += usize::from(ordered_anew(&request));
+            reordered += usize::from(turned_by_order(&request));
         }
         (request, lent)
     }));
@@ -146,11 +216,19 @@ fn good_requests_of_every_shape() {
     println!(
         "{waiting} have one that starts where a window ends, {moved} are others without windows"
     );
+    println!("{marked} have a marker, {in_windows} one in the midst of a window, {in_rows} one in the midst of a row");
+    println!(
+        "{anew} are placed in another order than document 01's, {reordered} are others in that"
+    );
     assert!(gaps >= 2_000, "{gaps} plans have a task in a gap");
     assert!(billed >= 2_000, "{billed} plans have a task that is billed a minimum");
     assert!(turned >= 2_000, "{turned} plans are others without minimums");
     assert!(waiting >= 3_000, "{waiting} plans have a task that starts where a window ends");
     assert!(moved >= 4_000, "{moved} plans are others without windows");
+    assert!(marked >= 4_000, "{marked} plans have a marker");
+    assert!(in_windows >= 200, "{in_windows} plans have a marker in the midst of a window");
+    assert!(in_rows >= 150, "{in_rows} plans have a marker in the midst of a row");
+    assert!(anew >= 1_000 && reordered >= 200, "{anew} ordered anew, {reordered} turned by it");
 }
 
 #[test]
@@ -180,7 +258,7 @@ fn damaged_requests() {
 fn every_number_of_rows() {
     let mut random = Random(0x40e5_5eed_0000_0001);
     // A step that has no divisor with the number of any part of a shape, so that all of each are met.
-    let requests: Vec<_> = good(0x40e5_5eed_0000_0002, SHAPES).step_by(15).collect();
+    let requests: Vec<_> = good(0x40e5_5eed_0000_0002, SHAPES).step_by(13).collect();
     let met = agree(requests.into_iter().flat_map(|(request, n)| {
         let longest = random.within(0, 70) as usize;
         (0..71).map(move |rows| {

@@ -1,9 +1,9 @@
 //! The exported reader and label lookup against the independent program: random good requests up to the full size,
 //! damaged ones of every kind, every cut, every byte and every number of two bytes, too many edges, windows in any
-//! order, noise.
+//! order, noise. Many have minutes of 0.
 use against::{Driver, Reading};
 use compare::build::{d, e, m, p, q, sample, t, w, z, Draft};
-use compare::random::{sized, windows_of, Damage, Random};
+use compare::random::{has_a_zero, sized, windows_of, Damage, Random};
 use compare::{Edge, Refusal, Window, Workflow, MOST_BYTES};
 
 // The sizes of the rules' records, with the kind byte.
@@ -143,6 +143,14 @@ fn workflow(request: &[u8], reading: &Reading, labels: &[&[u8]]) -> Workflow {
     }
 }
 
+/// The sample with a task that takes no time, and another that takes none on one processor.
+fn with_zeros() -> Draft {
+    let mut draft = sample(28);
+    draft.tasks[1].1 = vec![0, 0];
+    draft.tasks[2].1 = vec![6, 0];
+    draft
+}
+
 /// Four windows for each of 16 processors.
 fn four_for_each(random: &mut Random) -> Vec<(u8, u32, u32)> {
     (0..16).flat_map(|j| windows_of(random, j, 4, (0, 20_000))).collect()
@@ -188,6 +196,8 @@ fn good_requests() {
     let mut kinds = [0; 3];
     // How often it has windows, and two that touch.
     let (mut with_windows, mut touching) = (0, 0);
+    // How often it has minutes of 0.
+    let mut with_zeros = 0;
     let requests = (0..24_000).map(|_| {
         let draft = good(&mut random);
         let request = draft.bytes();
@@ -215,6 +225,7 @@ fn good_requests() {
         with_windows += usize::from(!draft.windows.is_empty());
         let touch = |pair: &[(u8, u32, u32)]| (pair[0].0, pair[0].2) == (pair[1].0, pair[1].1);
         touching += usize::from(draft.windows.windows(2).any(touch));
+        with_zeros += usize::from(has_a_zero(&draft));
         let ranges: [(&str, u32, u32, &[u32]); 14] = [
             ("n", 1, 64, &[sizes.0 as u32]),
             ("m", 1, 16, &[sizes.1 as u32]),
@@ -227,7 +238,7 @@ fn good_requests() {
             ("end", 1, 20_000, &ends_of_windows),
             ("minutes of a window", 1, 20_000, &lengths),
             ("windows of a processor", 0, 4, &counts),
-            ("minutes", 1, 2_000, &minutes),
+            ("minutes", 0, 2_000, &minutes),
             ("transfer", 0, 1_000, &transfers),
             ("bytes", 26, MOST_BYTES as u32, &[request.len() as u32]),
         ];
@@ -243,7 +254,7 @@ fn good_requests() {
     });
     assert!(agree(requests).iter().all(|&number| number == 0));
     println!("{full} full, {with_deadline} with a deadline, {without} without; ends {ends:?}; kinds {kinds:?}; labels {of_length:?}");
-    println!("{with_windows} with windows, {touching} with windows that touch");
+    println!("{with_windows} with windows, {touching} with windows that touch, {with_zeros} with minutes of 0");
     assert!(full >= 500, "{full} full");
     assert!(
         with_deadline >= 10_000 && without >= 10_000,
@@ -252,6 +263,7 @@ fn good_requests() {
     assert!(ends.iter().all(|end| end.1[0] >= 200 && end.1[1] >= 200), "{ends:?}");
     assert!(kinds.iter().all(|&seen| seen >= 4_000), "{kinds:?}");
     assert!(with_windows >= 12_000 && touching >= 2_000, "{with_windows}, {touching}");
+    assert!((6_000..18_000).contains(&with_zeros), "{with_zeros}");
     assert!(of_length[1..].iter().all(|&seen| seen >= 10_000), "{of_length:?}");
 }
 
@@ -290,6 +302,7 @@ fn every_cut() {
         sample(28),
         sample(28).with_minimums(&[None, Some(10)]),
         sample(28).with_windows(&[(0, 7, 9), (1, 4, 30)]),
+        with_zeros(),
         sized(&mut random, 1, 1, 0),
         full.clone().with_minimums(&[None; 16]).with_windows(&[]),
         full.with_minimums(&[Some(10_000); 16]).with_windows(&four_for_each(&mut random)),
@@ -307,7 +320,7 @@ fn every_cut() {
     }
 }
 
-/// The sample without minimums and windows and with them, each without a deadline and with one.
+/// The sample without minimums, windows and zeros and with them, each without a deadline and with one.
 #[test]
 fn every_byte_of_the_sample() {
     let drafts = [
@@ -316,6 +329,7 @@ fn every_byte_of_the_sample() {
         sample(28).with_minimums(&[Some(9), Some(0)]),
         sample(28).with_windows(&[(0, 7, 9), (1, 4, 30)]),
         sample(28).with_windows(&[(0, 0, 1), (0, 1, 258), (0, 259, 1_000), (0, 5_000, 20_000)]),
+        with_zeros(),
     ];
     let drafts = drafts.iter().flat_map(|draft| [None, Some(14)].map(|to| (draft, to)));
     let requests = drafts.flat_map(|(draft, deadline)| {
@@ -329,10 +343,10 @@ fn every_byte_of_the_sample() {
     });
     let met = met(&agree(requests));
     println!("{met:?}");
-    let bytes = 84 + 89 + 86 + 91 + 88 + 93 + 104 + 109 + 124 + 129;
+    let bytes = 84 + 89 + 86 + 91 + 88 + 93 + 104 + 109 + 124 + 129 + 84 + 89;
     assert_eq!(met.iter().sum::<usize>(), bytes * 256);
-    // 1 needs `Z` turned into `E`, and 6 one of the two `E` turned into `Z`, in each of the ten requests.
-    assert_eq!((met[1], met[6]), (10, 20));
+    // 1 needs `Z` turned into `E`, and 6 one of the two `E` turned into `Z`, in each of the twelve requests.
+    assert_eq!((met[1], met[6]), (12, 24));
     assert!([0, 2, 3, 4, 5].iter().all(|&number| met[number] >= 1_000), "{met:?}");
 }
 
@@ -355,7 +369,8 @@ fn every_number_of_more_bytes() {
         all.extend(numbers);
     };
     let values: Vec<u32> = (0..=u16::MAX.into()).collect();
-    within("minutes", 1, 2_000, &values, |draft, value| draft.tasks[1].1[0] = value as u16);
+    within("minutes", 0, 2_000, &values, |draft, value| draft.tasks[1].1[0] = value as u16);
+    within("minutes", 0, 2_000, &values, |draft, value| draft.tasks[2].1[1] = value as u16);
     within("transfer", 0, 1_000, &values, |draft, value| draft.edges[0].2 = value as u16);
     within("minimum", 0, 10_000, &values, |draft, value| draft.minimums[0] = Some(value as u16));
     within("minimum", 0, 10_000, &values, |draft, value| draft.minimums[1] = Some(value as u16));
@@ -496,7 +511,7 @@ fn noise_behind_a_header() {
                 (_, 2) if random.one_in(2) => request.extend(p(a, b)),
                 (_, 2) => request.extend(q(a, b, random.one_of(&[0, 1, 10_000, 10_001]))),
                 (_, 3) => request.extend(t(a, &b"aZ-"[..usize::from(b)])),
-                (_, 4) => request.extend(w(a, b, c.into())),
+                (_, 4) => request.extend(w(a, b, random.one_of(&[0, 1, 2_000, 2_001]))),
                 (_, 5) => request.extend(e(a, b, c.into())),
                 (_, 6) => request.extend(m(a, b.into(), random.one_of(&[0, 1, 3, 20_000, 20_001]))),
                 _ => request.extend(z()),

@@ -4,8 +4,8 @@ use against::frames::Library;
 use against::{Call, Driver};
 use compare::build::Draft;
 use compare::random::{windows_of, Damage, Random};
-use compare::shapes::{shaped, Budget, Deadline, Graph, Minimums, Numbers, Windows};
-use compare::shapes::{BUDGETS, DEADLINES, GRAPHS, MINIMUMS, NUMBERS, WINDOWS};
+use compare::shapes::{shaped, Budget, Deadline, Graph, Markers, Minimums, Numbers, Windows};
+use compare::shapes::{BUDGETS, DEADLINES, GRAPHS, MARKERS, MINIMUMS, NUMBERS, WINDOWS};
 use compare::{MOST_BYTES, REFUSALS};
 use std::collections::{BTreeMap, BTreeSet};
 use std::fs;
@@ -45,9 +45,9 @@ fn document(name: &str) -> String {
     fs::read_to_string(path).unwrap_or_else(|error| panic!("{name}: {error}"))
 }
 
-/// Requests of 64 tasks and 16 processors: of every shape, the dense ones with 512 edges, with one sort of minimums and of
-/// windows after the other; one of as many bytes as a request can have; and two with cycles through all tasks. In the
-/// first of these each task waits for the one before it, in the second for the eight before it: 512 edges.
+/// Requests of 64 tasks and 16 processors: of every shape, the dense ones with 512 edges, with one sort of minimums, of
+/// windows and of markers after the other; one of as many bytes as a request can have; and two with cycles through all
+/// tasks. In the first of these each task waits for the one before it, in the second for the eight before it: 512 edges.
 fn largest(random: &mut Random) -> Vec<Draft> {
     let mut drawn = |shape| shaped(random, (MOST_TASKS, 16), shape);
     let mut drafts = Vec::new();
@@ -59,7 +59,8 @@ fn largest(random: &mut Random) -> Vec<Draft> {
                     let turn = drafts.len() + drafts.len() / (BUDGETS.len() * DEADLINES.len());
                     let (least, down) = (turn % MINIMUMS.len(), turn % WINDOWS.len());
                     let (least, down) = (MINIMUMS[least], WINDOWS[down]);
-                    let shape = (graph, numbers, budget, deadline, least, down);
+                    let markers = MARKERS[turn % MARKERS.len()];
+                    let shape = (graph, numbers, budget, deadline, least, down, markers);
                     let mut draft = drawn(shape);
                     while graph == Graph::Dense && draft.edges.len() < 512 {
                         draft = drawn(shape);
@@ -81,8 +82,8 @@ fn largest(random: &mut Random) -> Vec<Draft> {
     drafts.push(most);
     for before in [1, 8] {
         let (budget, deadline) = (Budget::Plenty, Deadline::None);
-        let (least, down) = (Minimums::None, Windows::None);
-        let mut draft = drawn((Graph::Loose, Numbers::Any, budget, deadline, least, down));
+        let (least, down, markers) = (Minimums::None, Windows::None, Markers::None);
+        let mut draft = drawn((Graph::Loose, Numbers::Any, budget, deadline, least, down, markers));
         let edges = (0..64).flat_map(|i| (1..=before).map(move |k| (i, (i + k) % 64, 1_000)));
         draft.edges = edges.collect();
         draft.edges.sort();
