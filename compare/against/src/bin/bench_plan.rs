@@ -1,9 +1,10 @@
 //! Times the exported planner against the independent program's, side by side: nanoseconds for one plan, the best of
-//! many rounds, from 8 tasks to 64, without minimums and windows, and for 64 with 16 minimums, with 64 windows and with
-//! both. `bench_plan proved 64 1000` makes so many plans by one of the two (`proved` or `plain`) and prints nothing, for
-//! a tool that counts instructions; the words `minimums` and `windows` behind that make them with these.
+//! many rounds, from 8 tasks to 64, without minimums, windows and markers, and for 64 with 16 minimums, with 64 windows,
+//! with both and with 16 markers. `bench_plan proved 64 1000` makes so many plans by one of the two (`proved` or `plain`)
+//! and prints nothing, for a tool that counts instructions; the words `minimums`, `windows` and `markers` behind that make
+//! them with these.
 use compare::build::Draft;
-use compare::random::{cheapest_total, windows_of, Random};
+use compare::random::{cheapest_total, make_marker, windows_of, Random};
 use compare::Row;
 use std::hint::black_box;
 use std::time::Instant;
@@ -14,9 +15,20 @@ const PASSES: usize = 10;
 /// The windows end by then, which is about when the plan of 64 tasks ends without them.
 const WINDOWS_END: u64 = 18_000;
 
-/// So many tasks, numbered in any order, on 16 processors, with eight edges to a task or as many as there can be. All
-/// processors have a minimum, or none has; all have four windows, or none has. All else but the budget is the same.
-fn request(n: usize, minimums: bool, windows: bool) -> Vec<u8> {
+/// What a request has besides.
+#[derive(Clone, Copy, Default)]
+struct With {
+    /// All processors have a minimum.
+    minimums: bool,
+    /// All processors have four windows.
+    windows: bool,
+    /// Every fourth task takes no time, and has the rank of one that waits for it, if one does.
+    markers: bool,
+}
+
+/// So many tasks, numbered in any order, on 16 processors, with eight edges to a task or as many as there can be. All else
+/// but the budget is the same.
+fn request(n: usize, With { minimums, windows, markers }: With) -> Vec<u8> {
     let mut random = Random(0x5eed_9a17_be9c_0001);
     let mut draft = Draft::new(0, &[], &[], &[]);
     draft.prices = (0..16).map(|_| random.within(1, 100) as u8).collect();
@@ -45,6 +57,9 @@ fn request(n: usize, minimums: bool, windows: bool) -> Vec<u8> {
     if minimums {
         draft.minimums = (0..16).map(|_| Some(random.within(0, 10_000) as u16)).collect();
     }
+    if markers {
+        (0..n).step_by(4).for_each(|i| make_marker(&mut draft, i, true));
+    }
     draft.budget = (cheapest_total(&draft) * 5 / 4) as u32;
     if windows {
         let mut random = Random(0x5eed_9a17_be9c_0002);
@@ -71,23 +86,29 @@ fn main() {
     if let [by, n, plans, with @ ..] = &words[..] {
         let n = n.parse().expect("a number of tasks");
         let said = |name: &str| with.iter().any(|word| word == name);
-        let request = request(n, said("minimums"), said("windows"));
+        let with =
+            With { minimums: said("minimums"), windows: said("windows"), markers: said("markers") };
+        let request = request(n, with);
         for _ in 0..plans.parse::<usize>().expect("a number of plans") {
             black_box(if by == "proved" { proved(&request) } else { plain(&request) });
         }
         return;
     }
+    let none = With::default();
+    let (minimums, windows) = (With { minimums: true, ..none }, With { windows: true, ..none });
+    let both = With { windows: true, ..minimums };
     let cases = [
-        (8, false, false),
-        (16, false, false),
-        (32, false, false),
-        (64, false, false),
-        (64, true, false),
-        (64, false, true),
-        (64, true, true),
+        (8, none, ""),
+        (16, none, ""),
+        (32, none, ""),
+        (64, none, ""),
+        (64, minimums, ", 16 minimums"),
+        (64, windows, ", 64 windows"),
+        (64, both, ", 16 minimums, 64 windows"),
+        (64, With { markers: true, ..none }, ", 16 markers"),
     ];
-    for (n, minimums, windows) in cases {
-        let request = request(n, minimums, windows);
+    for (n, with, said) in cases {
+        let request = request(n, with);
         assert_eq!(zabgurin::text(&request), compare::text(&request));
         let round = |plan: &dyn Fn(&[u8]) -> u64| {
             let start = Instant::now();
@@ -103,10 +124,8 @@ fn main() {
         }
         let edges = (n * (n - 1) / 2).min(8 * n);
         let ratio = ours / theirs;
-        let with = if minimums { ", 16 minimums" } else { "" };
-        let down = if windows { ", 64 windows" } else { "" };
         println!(
-            "{n} tasks, {edges} edges{with}{down}: proved {ours:.0} ns, plain {theirs:.0} ns, ratio {ratio:.2}"
+            "{n} tasks, {edges} edges{said}: proved {ours:.0} ns, plain {theirs:.0} ns, ratio {ratio:.2}"
         );
     }
 }

@@ -35,9 +35,17 @@ fn compete<T, U>(
     println!("{name}, {bytes} bytes: proved {ours:.0} ns, plain {theirs:.0} ns, ratio {ratio:.2}");
 }
 
+/// The same with a minute where it has none.
+fn without_zeros(mut draft: Draft) -> Draft {
+    for time in draft.tasks.iter_mut().flat_map(|task| &mut task.1) {
+        *time = (*time).max(1);
+    }
+    draft
+}
+
 /// The full request, with a deadline; every processor is a `P`, or every one a `Q`, and none has windows.
 fn full(minimum: Option<u16>) -> Draft {
-    let mut draft = sized(&mut Random(0x5eed_4ead_be9c_0001), 64, 16, 512);
+    let mut draft = without_zeros(sized(&mut Random(0x5eed_4ead_be9c_0001), 64, 16, 512));
     draft.deadline = Some(200_000);
     draft.with_minimums(&[minimum; 16]).with_windows(&[])
 }
@@ -51,7 +59,7 @@ fn with_windows(draft: Draft) -> Draft {
 
 /// 64 tasks with labels of eight bytes, and as little as can be besides.
 fn labels() -> Draft {
-    let mut draft = sized(&mut Random(0x5eed_4ead_be9c_0002), 64, 1, 0);
+    let mut draft = without_zeros(sized(&mut Random(0x5eed_4ead_be9c_0002), 64, 1, 0));
     draft.deadline = None;
     draft.minimums = vec![None];
     draft.windows = Vec::new();
