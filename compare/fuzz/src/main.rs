@@ -7,7 +7,7 @@ use std::time::{Duration, Instant};
 use std::{env, fs, process};
 
 use compare::random::{Damage, Random};
-use compare::shapes::{shaped, BUDGETS, DEADLINES, GRAPHS, MINIMUMS, NUMBERS, WINDOWS};
+use compare::shapes::{shaped, BUDGETS, DEADLINES, GRAPHS, MARKERS, MINIMUMS, NUMBERS, WINDOWS};
 use compare::{samples, Answer, Row};
 
 static COUNTERS: AtomicPtr<u8> = AtomicPtr::new(std::ptr::null_mut());
@@ -76,6 +76,7 @@ fn changed(random: &mut Random, kept: &[Vec<u8>]) -> Vec<u8> {
             random.one_of(&DEADLINES),
             random.one_of(&MINIMUMS),
             random.one_of(&WINDOWS),
+            random.one_of(&MARKERS),
         );
         let most = random.one_of(&[3, 8, 64]);
         let (n, m) = (random.within(1, most) as usize, random.within(1, 16.min(most)) as usize);
