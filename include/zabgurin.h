@@ -65,8 +65,9 @@ struct zabgurin_answer {
 };
 
 /* Plans a request. Row i of the plan is the i-th number of each of four buffers: the processor of task i, the minutes at which it starts and is finished, and its
-   cost. No row overlaps another one, or a window, of its processor. As many rows are lent as the shortest buffer has numbers. A plan writes rows 0 to tasks - 1 and keeps
-   what stands after them; a refusal writes nothing. */
+   cost. No row overlaps another one, or a window, of its processor. A task of 0 minutes there starts and is finished at one minute, which may be in the midst of these: it
+   has no minute in common with them. As many rows are lent as the shortest buffer has numbers. A plan writes rows 0 to tasks - 1 and keeps what stands after them; a
+   refusal writes nothing. */
 struct zabgurin_answer zabgurin_plan(const uint8_t *request, size_t request_len, uint64_t *processors, size_t processors_len, uint64_t *starts,
                                      size_t starts_len, uint64_t *finishes, size_t finishes_len, uint64_t *costs, size_t costs_len);
 

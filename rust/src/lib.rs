@@ -19,7 +19,7 @@ pub const MOST_TEXT: usize = 2_145;
 /// A request that passes reading has at most so many bytes; a longer one is refused with 1 to 6. What comes after the first 16,384 bytes changes no answer.
 pub const MOST_REQUEST: usize = 9_053;
 
-/// Where a task runs, from when to when, and what it costs.
+/// Where a task runs, from when to when, and what it costs. A task of 0 minutes there starts and is finished at one minute, which may be in the midst of another row or of a window.
 #[derive(Clone, Copy, Debug, Default, PartialEq, Eq)]
 pub struct Row {
     pub processor: u64,
