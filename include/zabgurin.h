@@ -6,10 +6,10 @@
    stack, from its return address down; the arguments that stand in the caller's frame are not counted. That is added up from the compiled frames and measured,
    not proved, and holds for the library as this version of the kit compiles it:
 
-    zabgurin_plan       7,432 bytes
-    zabgurin_print      9,656 bytes
-    zabgurin_label        568 bytes
-    zabgurin_read         520 bytes
+    zabgurin_plan       8,168 bytes
+    zabgurin_print     10,392 bytes
+    zabgurin_label        584 bytes
+    zabgurin_read         536 bytes
     zabgurin_label_len     40 bytes
     zabgurin_listed         8 bytes
 

@@ -90,6 +90,7 @@ module _ (W : Workflow) (p : Processors) (clock : ℕ) where
   begins-begun begins =
       record {
         size = begins .size;
+        past = begins .past;
         begin = λ task l m.
             let there = begins .begin task l m in
             record { within = there .within; before = there .before; onward = there .onward };

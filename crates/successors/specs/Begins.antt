@@ -20,16 +20,22 @@ pub record Begins (W : Workflow) (task at : ℕ) : Type 0 where
   pub before : (e : ℕ) → e < at → W .from e < task
   pub onward : (e : ℕ) → at ≤ e → e < W .edges → task ≤ W .from e
 
--- An array that has, for each task from `first` on, where its edges begin; and for the number of tasks, where all edges end.
+-- An array that has, for each task from `first` on, where its edges begin; for the number of tasks, where all edges end; and 0 past that.
 pub record BeginsFrom (W : Workflow) (first : ℕ) (begins : List ℕ) : Type 0 where
   pub size : length begins ≡ 65
   pub begin : (task : ℕ) → first ≤ task → task ≤ W .tasks → Begins W task (getD begins task 0)
+  pub past : (task : ℕ) → W .tasks < task → getD begins task 0 ≡ 0
 
 -- One task more, on the way back.
-pub begins-from : (W : Workflow) (task at : ℕ) (begins : List ℕ) → length begins ≡ 65 → task < 65 → Begins W task at
+pub begins-from : (W : Workflow) (task at : ℕ) (begins : List ℕ) → length begins ≡ 65 → task < 65 → task ≤ W .tasks
+    → ((t : ℕ) → W .tasks < t → getD begins t 0 ≡ 0) → Begins W task at
     → ((later : ℕ) → task + 1 ≤ later → later ≤ W .tasks → Begins W later (getD begins later 0)) → BeginsFrom W task (set begins task at)
-begins-from W task at begins size room here later =
-    record { size = length-set begins task at ∙ size; begin = λ t l below. rw (stored begins task at 0 t (omega arith)) (go t l below (ℕ-discrete task t)) }
+begins-from W task at begins size room is-task past here later =
+    record {
+      size = length-set begins task at ∙ size;
+      begin = λ t l below. rw (stored begins task at 0 t (omega arith)) (go t l below (ℕ-discrete task t));
+      past = λ t l. rw (stored begins task at 0 t (omega arith), ne-eqb task t (omega arith)) (past t l);
+    }
   where
     go : (t : ℕ) → task ≤ t → t ≤ W .tasks → Dec (task ≡ t) → Begins W t (cond (eqb task t) at (getD begins t 0))
     go t l below (yes e) = rw (eq-eqb task t e, ← e) here

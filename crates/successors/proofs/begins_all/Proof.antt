@@ -4,6 +4,7 @@ use mathlib.Core.Path.{_≡_, refl}
 use lib.ListN.{replicate}
 use Rattle.rules.specs.Workflow.{workflow}
 use Rattle.good.specs.Ranges.{InRange}
+use Rattle.laws.specs.Stores.{repeated}
 use Rattle.lookup.specs.Lookup.{workflow-of}
 use Rattle.lookup.specs.Views.{view-in-range}
 use Rattle.successors.specs.Begins.{Begins, BeginsFrom, begins-at-end, begins-from}
@@ -40,7 +41,7 @@ loop-holds c =
     let W = workflow-of (a .s .now) (a .v) in
     let range = in-range (c .before) in
     let at-end = begins-at-end W range in
-    (omega arith, at-end, begins-from W (a .v .tasks) (a .v .edges) (replicate 65 0) refl (omega (arith, range .tasks-in)) at-end (λ later l below. absurd (omega arith)))
+    (omega arith, at-end, begins-from W (a .v .tasks) (a .v .edges) (replicate 65 0) refl (omega (arith, range .tasks-in)) (omega arith) (λ t l. repeated 65 0 t) at-end (λ later l below. absurd (omega arith)))
 
 sub-task : tie.Need-sub-task Inv-loop μ-loop
 sub-task c = omega arith
@@ -74,7 +75,7 @@ loop-again c =
     let range = in-range (c .before .before .before .before) in
     let so-far = loop .inv .2 in
     let here = c .begin-of .ensures in
-    (omega arith, here, begins-from (workflow-of (a .s .now) (a .v)) (loop .task - 1) _ (loop .begins) (so-far .size) (omega (arith, range .tasks-in)) here (λ later l below. so-far .begin later (omega arith) below))
+    (omega arith, here, begins-from (workflow-of (a .s .now) (a .v)) (loop .task - 1) _ (loop .begins) (so-far .size) (omega (arith, range .tasks-in)) (omega arith) (so-far .past) here (λ later l below. so-far .begin later (omega arith) below))
 
 returns : tie.Need-returns Inv-loop μ-loop
 returns c =
