@@ -1,5 +1,5 @@
 -- Demand 3: two requests that differ only in their units get the same machines or the same refusal. Stated of what the caller gets, in lent rows and in
--- four buffers. Below: two requests that it speaks of (`SampleMultiplied`); why b is at least 1 (`PricesOfNothing`), why the mean is not rounded
+-- four buffers. Below: two requests that it speaks of (`SampleMultiplied`); why a and b are at least 1 (`ByZero`), why the mean is not rounded
 -- (`RoundedMean`), and that the 1 for a range of 0 is no reason (`StandIns`). The other files are what it rests on.
 pub mod ScoreMultiplied
 pub mod ZeroRanges
@@ -11,7 +11,7 @@ pub mod AnswerMultiplied
 pub mod SampleMultiplied
 pub mod StandIns
 pub mod RoundedMean
-pub mod PricesOfNothing
+pub mod ByZero
 use mathlib.Core.Path.{_≡_, sym, ap, ap₂, _∙_}
 use Prim.Native.Nat.{ℕ, _*_, _<_, _≤_}
 use mathlib.Core.List.{List, map}

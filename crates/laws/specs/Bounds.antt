@@ -1,4 +1,4 @@
--- Bounds of what is computed for a request that passes reading, each from the ranges of the rules: 1 to 64 tasks, 1 to 16 processors, 1 to 2,000 minutes,
+-- Bounds of what is computed for a request that passes reading, each from the ranges of the rules: 1 to 64 tasks, 1 to 16 processors, 0 to 2,000 minutes,
 -- transfers of 0 to 1,000 minutes, windows that end by 20,000, prices of 0 to 100, minimums of 0 to 10,000, a budget of 0 to 20,000,000.
 use Prim.Native.Nat.{ℕ, _+_, _*_, _^_, _<_}
 use native.Mathlib.Omega.{arith}

@@ -291,6 +291,17 @@ pub window-multiplied :
 unfolding given down answer-multiplied
 window-multiplied = (refl, refl)
 
+-- 0 minutes stay 0: the markers come after the task that takes 15 minutes, of the request so multiplied, and of the multiplied workflow.
+abbrev markers-by-3 : List ℕ
+markers-by-3 =
+    H-record 3 1 300 ++ P-record 0 2 ++ alone 0 "last    " 0 ++ alone 1 "marker  " 0 ++ alone 2 "first   " 15 ++ E-record 1 0 0 ++ E-record 2 1 0 ++ bytes "Z"
+
+pub marker-multiplied :
+    (answer markers-by-3 64 ≡ planned 3 15 30 270)
+    × (answer-multiplied 3 2 marker-before ≡ planned 3 15 30 270)
+unfolding given alone chain marker-before answer-multiplied
+marker-multiplied = (refl, refl)
+
 -- The kind that each processor was read in: a `Q` with minimum 0 is a `Q`.
 pub kinds-kept :
     (kinds (S 28) ≡ P ∷ P ∷ [])

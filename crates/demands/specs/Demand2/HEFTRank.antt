@@ -1,6 +1,6 @@
 -- "This is m times HEFT's rank, so nothing is rounded": R over m satisfies the equation of HEFT's rank as fractions, with the mean of the minutes as
 -- their sum over m.
-use Prim.Native.Nat.{ℕ, _+_, _*_, _≤_, _<_}
+use Prim.Native.Nat.{ℕ, _+_, _*_, _<_}
 use mathlib.Core.Path.{_≡_, refl, sym, ap, _∙_}
 use mathlib.Core.Bool.{Bool, true, false, cond, false≢true}
 use mathlib.Core.Logic.{_⊎_, inl, inr, ⊎-elim}

@@ -1,5 +1,5 @@
 -- HEFT's rank is settled: whatever fractions satisfy its equation are R over m. From the successors of each task to the task.
-use Prim.Native.Nat.{ℕ, zero, suc, _+_, _*_, _≤_, _<_}
+use Prim.Native.Nat.{ℕ, _+_, _*_, _≤_, _<_}
 use mathlib.Core.Path.{_≡_, sym, ap, _∙_, subst}
 use mathlib.Core.Logic.{inl, inr}
 use native.Mathlib.Nat.{mul-le-mul-right, le-of-mul-le-mul-right}

@@ -16,7 +16,7 @@ use Rattle.rules.specs.Ranks.{R, next-task}
 use Rattle.rules.specs.Method.{Method, HBCS}
 use Rattle.rules.specs.Rows.{Row, Placed, is-placed}
 use Rattle.rules.specs.Placing.{place-task, place-next, place}
-use Rattle.rules.specs.Answer.{Outcome, refusal, refuse, outcome-of, outcome-by, outcome-read, outcome, Answer, answer-of, answer, written, rows-after}
+use Rattle.rules.specs.Answer.{Outcome, refusal, refuse, outcome-of, outcome-by, outcome-read, outcome, answer-of, answer, written, rows-after}
 use Rattle.rules.specs.Buffers.{Buffers, rows-lent, buffers-written, buffers-after}
 use Rattle.rules.specs.Cases.{given, four-rows, row}
 use Rattle.rules.specs.Corners.{alone, chain, marker-before}
@@ -31,7 +31,7 @@ use Rattle.laws.specs.Cycles.{none-leads-back}
 use Rattle.demands.specs.Ground.GoodWorkflow.{GoodWorkflow, good-workflow}
 use Rattle.demands.specs.Ground.MethodLaws.{ChoosesProcessors}
 use Rattle.demands.specs.Demand2.HBCSChoice.{HBCS-chooses-processors}
-use Rattle.demands.specs.Demand2.Order.{HighestLeft, next-task-highest, R-at-least}
+use Rattle.demands.specs.Demand2.Order.{next-task-highest, R-at-least}
 use Rattle.demands.specs.Demand2.Built.{built-count, place-built}
 use Rattle.demands.specs.Demand2.StepsSettled.{highest-settled}
 

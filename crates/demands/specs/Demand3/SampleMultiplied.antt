@@ -159,3 +159,14 @@ for-nothing-both-good =
     both-good 1 0 0 refl refl (below-two _ refl refl) (below-two _ refl refl)
     (three-by-two _ refl refl refl refl refl refl)
     (below-two _ refl refl)
+
+-- Times and the budget multiplied by 0: since a task may take no minutes, such a request passes reading.
+abbrev pub in-no-time : List ℕ
+in-no-time = by 0 1 0
+
+pub in-no-time-both-good : BothGood 0 1 (S 28) in-no-time
+unfolding given sample S sampled
+in-no-time-both-good =
+    both-good 0 1 0 refl refl (below-two _ refl refl) (below-two _ refl refl)
+    (three-by-two _ refl refl refl refl refl refl)
+    (below-two _ refl refl)
