@@ -1,6 +1,6 @@
 -- Demand 1: every byte string is answered, one way, a refusal changes nothing, and no label off the list gets through. Below: what reading is (`Wanted`,
--- `Reads`), that reading does just that (`Reading`), the request that stands in the bytes (`Stands`), and what a fifth window is (`FifthWindow`). The other files
--- are what these rest on.
+-- `Reads`), that reading does just that (`Reading`), the request that stands in the bytes (`Stands`), what a fifth window is (`FifthWindow`), and which of
+-- document 01's ranges has changed (`NoMinutes`). The other files are what these rest on.
 pub mod Wanted
 pub mod Tells
 pub mod Reads
@@ -19,6 +19,7 @@ pub mod Stands
 pub mod Reading
 pub mod LabelBytes
 pub mod FifthWindow
+pub mod NoMinutes
 use Prim.Native.Nat.{ℕ, _+_, _≤_, _<_}
 use mathlib.Core.Path.{_≡_, refl, sym, ap, _∙_}
 use mathlib.Core.List.{List, List·Memᴰ}

@@ -1,19 +1,17 @@
 -- The rules leave no choice: of those that may be next one task has the highest R and then the lowest number, and one processor wins. So two plans made as the
 -- method says are one.
-use Prim.Native.Nat.{ℕ, _<_}
+use Prim.Native.Nat.{ℕ}
 use mathlib.Core.Path.{_≡_, refl, sym, ap₂, _∙_, subst}
-use mathlib.Core.Bool.{Bool}
 use mathlib.Core.List.{List, [], _∷_}
 use native.Mathlib.Omega.{arith}
 use native.Mathlib.Nat.{suc-inj}
 use lib.ListN.{length}
 use Rattle.rules.specs.Workflow.{Workflow}
-use Rattle.rules.specs.Ranks.{R}
 use Rattle.rules.specs.Rows.{Placed, is-placed}
 use Rattle.rules.specs.Method.{Question, score}
 use Rattle.rules.specs.Placing.{question, row-on}
 use Rattle.laws.specs.NextTask.{MayBeNext}
-use Rattle.demands.specs.Demand2.Order.{HighestLeft}
+use Rattle.demands.specs.Demand2.Order.{highest-settled}
 use Rattle.demands.specs.Demand2.HBCSChoice.{Wins}
 use Rattle.demands.specs.Demand2.Steps.{EachStep, AsTheMethod}
 
@@ -30,21 +28,10 @@ wins-settled q j j′ w w′ =
     omega arith
 
 module _ (W : Workflow) where
-  pub highest-settled :
-      (placed : ℕ → Bool) (i i′ : ℕ) → i < W .tasks → i′ < W .tasks → MayBeNext W placed i → MayBeNext W placed i′
-      → HighestLeft W placed i → HighestLeft W placed i′ → i ≡ i′
-  highest-settled placed i i′ task task′ may may′ h h′ =
-      let highest = h .highest i′ task′ may′ in
-      let highest′ = h′ .highest i task may in
-      let rank-same : R W i ≡ R W i′ = omega arith in
-      let lowest = h .then-lowest i′ task′ may′ (sym rank-same) in
-      let lowest′ = h′ .then-lowest i task may rank-same in
-      omega arith
-
   step-settled : (before : List Placed) (p p′ : Placed) → AsTheMethod W before p → AsTheMethod W before p′ → p ≡ p′
   step-settled before p p′ h h′ =
       let task =
-      highest-settled (is-placed before) (p .task) (p′ .task) (h .task) (h′ .task) (h .may-be-next) (h′ .may-be-next) (h .highest-left) (h′ .highest-left) in
+      highest-settled W (MayBeNext W (is-placed before)) (p .task) (p′ .task) (h .task) (h′ .task) (h .may-be-next) (h′ .may-be-next) (h .highest-left) (h′ .highest-left) in
       let wins′ = subst (λ i. Wins (question W before i) (p′ .row .processor)) (sym task) (h′ .wins) in
       let processor = wins-settled (question W before (p .task)) (p .row .processor) (p′ .row .processor) (h .wins) wins′ in
       let row : p .row ≡ p′ .row = h .row ∙ ap₂ (row-on W before) task processor ∙ sym (h′ .row) in

@@ -22,18 +22,15 @@ use Rattle.rules.specs.Cases.{given, four-rows, row}
 use Rattle.rules.specs.Corners.{alone, chain, marker-before}
 use Rattle.laws.specs.Tests.{true-unless-false}
 use Rattle.laws.specs.Folds.{at-most-sum}
-use Rattle.laws.specs.Orders.{higher-false}
 use Rattle.laws.specs.First.{first-below, first-passes}
-use Rattle.laws.specs.Strict.{tie-strict, higher-strict, first-among-unbeaten, first-among-lowest}
 use Rattle.laws.specs.Unmarked.{count-unmarked, some-unmarked}
 use Rattle.laws.specs.NextTask.{MayBeNext, next-task-may}
 use Rattle.laws.specs.Cycles.{none-leads-back}
 use Rattle.demands.specs.Ground.GoodWorkflow.{GoodWorkflow, good-workflow}
 use Rattle.demands.specs.Ground.MethodLaws.{ChoosesProcessors}
 use Rattle.demands.specs.Demand2.HBCSChoice.{HBCS-chooses-processors}
-use Rattle.demands.specs.Demand2.Order.{next-task-highest, R-at-least}
+use Rattle.demands.specs.Demand2.Order.{Highest, first-highest, highest-settled, next-task-highest, R-at-least}
 use Rattle.demands.specs.Demand2.Built.{built-count, place-built}
-use Rattle.demands.specs.Demand2.StepsSettled.{highest-settled}
 
 -- Document 01's order: tasks are placed by falling R; equal R, lower number first.
 unfoldable pub next-by-rank : Workflow → (ℕ → Bool) → ℕ
@@ -71,17 +68,9 @@ module _ (W : Workflow) (good : GoodWorkflow W) (acyclic : (i : ℕ) → Leads W
         let (i, below, free) = some-unmarked placed (W .tasks) left in
         (first-below (W .tasks) _ (omega arith), not-true _ (first-passes (λ t. not (placed t)) _ (W .tasks) i below (ap not free)))
 
-    by-rank-highest : (k : ℕ) → k < W .tasks → placed k ≡ false → R W k ≤ R W (next-by-rank W placed)
+    by-rank-highest : Highest W (λ k. placed k ≡ false) (next-by-rank W placed)
     unfolding next-by-rank
-    by-rank-highest k below free =
-        higher-false (R W) tie k _ .0
-        (first-among-unbeaten (λ t. not (placed t)) (higher-strict (R W) tie-strict) (W .tasks) k below (ap not free)) .0
-
-    by-rank-lowest : (k : ℕ) → k < W .tasks → placed k ≡ false → R W k ≡ R W (next-by-rank W placed) → next-by-rank W placed ≤ k
-    unfolding next-by-rank
-    by-rank-lowest k below free same =
-        first-among-lowest (λ t. not (placed t)) (higher-strict (R W) tie-strict) (W .tasks) k below (ap not free)
-        (higher-false (R W) tie _ k .1 (omega arith, λ _. unfold tie in refl))
+    by-rank-highest = first-highest W (λ k. not (placed k)) (λ k. placed k ≡ false) (λ k. ap not)
 
     -- So its predecessors, whose R is higher, are placed; and it is the next.
     by-rank-may : MayBeNext W placed (next-by-rank W placed)
@@ -90,14 +79,17 @@ module _ (W : Workflow) (good : GoodWorkflow W) (acyclic : (i : ℕ) → Leads W
           left = by-rank-free .1;
           predecessors-placed = λ e l to.
               true-unless-false (placed (W .from e)) (λ free.
-              omega (arith, R-falls e l, ap (R W) to, by-rank-highest (W .from e) (good .from e l) free));
+              omega (arith, R-falls e l, ap (R W) to, by-rank-highest .highest (W .from e) (good .from e l) free));
         }
 
     pub next-as-by-rank : next-task W placed ≡ next-by-rank W placed
     next-as-by-rank =
         let (task, may) = next-task-may W placed (good .from) acyclic left in
-        highest-settled W placed _ _ task (by-rank-free .0) may by-rank-may (next-task-highest W placed)
-        (record { highest = λ k below k-may. by-rank-highest k below (k-may .left); then-lowest = λ k below k-may. by-rank-lowest k below (k-may .left) })
+        highest-settled W (MayBeNext W placed) _ _ task (by-rank-free .0) may by-rank-may (next-task-highest W placed)
+        (record {
+          highest = λ k below k-may. by-rank-highest .highest k below (k-may .left);
+          then-lowest = λ k below k-may. by-rank-highest .then-lowest k below (k-may .left);
+        })
 
   -- By any method whose choices are processors.
   pub place-as-by-rank : (M : Method) → ChoosesProcessors M → (k : ℕ) → k ≤ W .tasks → place M W k ≡ place-by-rank M W k
