@@ -23,49 +23,39 @@ keeps-none = record { in-order = none-in-order; in-all = refl; holds = λ j l. r
 pub keeps-itself : {p : Processors} → InOrder (p .begins) (p .ends) (p .first) → Keeps (kept-by p) (at (p .first) 16) p
 keeps-itself order = record { in-order = order; in-all = refl; holds = λ j l ready minutes. refl }
 
-keeps-more :
-    {busy : ℕ → List Interval} {k j x y : ℕ} {before after : Processors} → Keeps busy k before → j < 16 → k < room-most → x < y
-    → WithInterval k j x y before after → Keeps (busy-with j (record { begin = x; end = y }) busy) (k + 1) after
-unfolding busy-with
-keeps-more {busy} {j = j} {x = x} {y = y} {before = before} held l room some put =
-    let order = held .in-order in
-    record {
-      in-order = put-in-order order (held .in-all) l room some put;
-      in-all = put-all order (held .in-all) l room some put;
-      holds = λ i below ready minutes.
-          put-busy order (held .in-all) l room some put i below ready minutes ∙ go i (eqb j i) (held .holds i below) ready minutes;
-    }
-  where
-    new : Interval
-    new = record { begin = x; end = y }
-
-    go :
-        (i : ℕ) (s : Bool) → SameStart (kept-by before i) (busy i)
-        → SameStart (cond s (new ∷ kept-by before i) (kept-by before i)) (cond s (new ∷ busy i) (busy i))
-    go i true same = same-start-more new _ _ same
-    go i false same = same
-
 -- A window or row is put in, or left out where it has no minutes.
 module _ {busy : ℕ → List Interval} {k j : ℕ} {before : Processors} (held : Keeps busy k before) (l : j < 16) (room : k < room-most) (x y : ℕ) where
-  pub keeps-put : Keeps (busy-with j (record { begin = x; end = y }) busy) (k + cond (ltb x y) 1 0) (put-in j x y before)
+  abbrev new : Interval
+  new = record { begin = x; end = y }
+
+  with-it : (i : ℕ) (t : Bool) → i < 16 → SameStart (cond t (new ∷ kept-by before i) (kept-by before i)) (cond t (new ∷ busy i) (busy i))
+  with-it i true below = same-start-more new _ _ (held .holds i below)
+  with-it i false below = held .holds i below
+
+  without-it : (i : ℕ) (t : Bool) → y ≤ x → SameStart (busy i) (cond t (new ∷ busy i) (busy i))
+  without-it i true none = same-start-none new (busy i) none
+  without-it i false none = λ ready minutes. refl
+
+  pub keeps-put : Keeps (busy-with j new busy) (k + cond (ltb x y) 1 0) (put-in j x y before)
   unfolding put-in busy-with
   keeps-put = go (ltb x y) refl
     where
-      new : Interval
-      new = record { begin = x; end = y }
-
       go : (t : Bool) → ltb x y ≡ t → Keeps (busy-with j new busy) (k + cond t 1 0) (cond t (with-interval (at (before .first) 16) j x y before) before)
-      go true some = keeps-more held l room (ltb-true x y some) (rw (held .in-all) put-there)
+      go true some =
+          let order = held .in-order in
+          let put : WithInterval k j x y before (with-interval (at (before .first) 16) j x y before) = rw (held .in-all) put-there in
+          record {
+            in-order = put-in-order order (held .in-all) l room (ltb-true x y some) put;
+            in-all = put-all order (held .in-all) l room (ltb-true x y some) put;
+            holds = λ i below ready minutes.
+                put-busy order (held .in-all) l room (ltb-true x y some) put i below ready minutes ∙ with-it i (eqb j i) below ready minutes;
+          }
       go false none =
           record {
             in-order = held .in-order;
             in-all = held .in-all ∙ omega arith;
-            holds = λ i below ready minutes. held .holds i below ready minutes ∙ without i (eqb j i) ready minutes;
+            holds = λ i below ready minutes. held .holds i below ready minutes ∙ without-it i (eqb j i) (ltb-false x y none) ready minutes;
           }
-        where
-          without : (i : ℕ) (t : Bool) → SameStart (busy i) (cond t (new ∷ busy i) (busy i))
-          without i true = same-start-none new (busy i) (ltb-false x y none)
-          without i false = λ ready minutes. refl
 
 pub keeps-end-by :
     {busy : ℕ → List Interval} {k : ℕ} {p : Processors} → Keeps busy k p → (c : ℕ)

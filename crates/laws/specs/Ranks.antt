@@ -2,13 +2,13 @@
 -- was given matters any more.
 use Prim.Native.Nat.{ℕ, suc, _+_, _*_, _<_}
 use mathlib.Core.Path.{_≡_, refl, sym, ap, _∙_}
-use mathlib.Core.Bool.{Bool, true, false, cond}
 use lib.Dec.{eqb}
 use borrow.Author.Tests.{eqb-true}
 use Rattle.rules.specs.Folds.{sum}
 use Rattle.rules.specs.Workflow.{Workflow}
 use Rattle.rules.specs.Cycle.{Leads}
 use Rattle.rules.specs.Ranks.{rank-by, rank-within, R}
+use Rattle.laws.specs.Tests.{cond-same}
 use Rattle.laws.specs.Folds.{largest-same}
 use Rattle.laws.specs.Onward.{holds-at-last}
 use Rattle.laws.specs.Cycles.{EdgesEnd}
@@ -18,13 +18,8 @@ pub rank-by-same :
     (W : Workflow) (f g : ℕ → ℕ) (i : ℕ) → ((e : ℕ) → e < W .edges → W .from e ≡ i → f (W .to e) ≡ g (W .to e)) → rank-by W f i ≡ rank-by W g i
 unfolding rank-by
 rank-by-same W f g i same =
-    ap (λ z. sum (W .processors) (W .minutes i) + z) (largest-same (W .edges) _ _ (λ e l. go e l (eqb (W .from e) i) refl))
-  where
-    go :
-        (e : ℕ) → e < W .edges → (t : Bool) → eqb (W .from e) i ≡ t
-        → cond t (W .processors * W .transfer e + f (W .to e)) 0 ≡ cond t (W .processors * W .transfer e + g (W .to e)) 0
-    go e l true h = ap (λ z. W .processors * W .transfer e + z) (same e l (eqb-true (W .from e) i h))
-    go e l false h = refl
+    ap (λ z. sum (W .processors) (W .minutes i) + z) (largest-same (W .edges) _ _ (λ e l.
+    cond-same (eqb (W .from e) i) 0 (λ from. ap (λ z. W .processors * W .transfer e + z) (same e l (eqb-true (W .from e) i from)))))
 
 module _ (W : Workflow) (ends : EdgesEnd W) (acyclic : (i : ℕ) → Leads W i i → ⊥) where
   -- Two ranks in steps agree at last.

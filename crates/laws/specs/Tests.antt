@@ -12,6 +12,11 @@ pub cond-either {ℓ κ} : {A : Type ℓ} (P : A → Type κ) (t : Bool) (x y : 
 cond-either P true x y one other = one refl
 cond-either P false x y one other = other refl
 
+-- Two values that are the same where the test passes.
+pub cond-same {ℓ} : {A : Type ℓ} (t : Bool) (z : A) {x y : A} → (t ≡ true → x ≡ y) → cond t x z ≡ cond t y z
+cond-same true z same = same refl
+cond-same false z same = refl
+
 -- A function of what is taken.
 pub cond-mapped {ℓ κ} : {A : Type ℓ} {B : Type κ} (f : A → B) (t : Bool) (x y : A) → f (cond t x y) ≡ cond t (f x) (f y)
 cond-mapped f true x y = refl

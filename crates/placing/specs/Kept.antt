@@ -25,7 +25,7 @@ pub record Kept (W : Workflow) (rows : List Placed) (k : ℕ) (state : State) : 
   -- What holds each task back; and a task that has a row came after its predecessors.
   pub held : Held W (is-placed rows) (state .held)
   pub closed : (e : ℕ) → e < W .edges → is-placed rows (W .to e) ≡ true → is-placed rows (W .from e) ≡ true
-  -- What the processors are busy with: so much at the outset, and k rows.
+  -- What the processors are busy with: so much at the outset, and those of the k rows that take minutes.
   pub processors : Keeps (busy W rows) (intervals state) (state .processors)
   pub few-intervals : intervals state ≤ outset-most + k
   pub rb-is : state .rb ≡ W .budget - rules.spent rows

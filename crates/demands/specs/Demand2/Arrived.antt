@@ -1,8 +1,8 @@
 -- No task starts before its inputs arrived: its predecessors are placed when it is, and their rows stay as they were. One that takes no minutes starts when
 -- they have.
 use Prim.Native.Nat.{ℕ, _+_, _≤_, _<_, max}
-use mathlib.Core.Path.{_≡_, refl, sym, ap, _∙_}
-use mathlib.Core.Bool.{Bool, true, false, cond}
+use mathlib.Core.Path.{_≡_, sym, ap, _∙_}
+use mathlib.Core.Bool.{true, false, cond}
 use mathlib.Core.List.{List, _∷_}
 use native.Mathlib.Omega.{arith}
 use lib.Dec.{eqb}
@@ -12,6 +12,7 @@ use Rattle.rules.specs.Start.{arrival, arrived, ready, start-on}
 use Rattle.rules.specs.Rows.{Row, Placed, row-of, is-placed, busy}
 use Rattle.rules.specs.Method.{Method}
 use Rattle.rules.specs.Placing.{ready-for, start-of, row-on}
+use Rattle.laws.specs.Tests.{cond-same}
 use Rattle.laws.specs.Folds.{at-most-largest, largest-same}
 use Rattle.laws.specs.StartLaws.{start-not-before-ready, start-of-none}
 use Rattle.demands.specs.Demand2.Lookup.{none-placed, old-placed, old-row, each-row}
@@ -41,12 +42,8 @@ pub ready-same :
 unfolding ready arrived arrival
 ready-same W row row′ i j same =
     ap (max (W .clock)) (largest-same (W .edges) _ _ (λ e l.
-    cond-either-same (eqb (W .to e) i) (λ to.
+    cond-same (eqb (W .to e) i) 0 (λ to.
     ap (λ r. r .finish + cond (eqb (r .processor) j) 0 (W .transfer e)) (same e l (eqb-true (W .to e) i to)))))
-  where
-    cond-either-same : (t : Bool) {x y : ℕ} → (t ≡ true → x ≡ y) → cond t x 0 ≡ cond t y 0
-    cond-either-same true e = e refl
-    cond-either-same false e = refl
 
 module _ (M : Method) (W : Workflow) where
   pub rows-arrived :

@@ -24,7 +24,7 @@ in-range c = view-in-range (c .args .s .now) (c .args .v) (c .pre)
 
 cast-begins : tie.Need-cast-begins Inv-loop μ-loop
 unfolding workflow
-cast-begins c = omega (arith, in-range (c .before) .edges-in)
+cast-begins c = omega (arith, in-range (c .before) .edges-in, in-range (c .before) .tasks-in)
 
 mul-begins : tie.Need-mul-begins Inv-loop μ-loop
 unfolding workflow
