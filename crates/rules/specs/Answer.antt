@@ -6,13 +6,14 @@ use lib.ListN.{length, drop}
 use lib.Dec.{ltb}
 use Rattle.rules.specs.Folds.{listing}
 use Rattle.rules.specs.Records.{Read, read, stopped}
-use Rattle.rules.specs.Reading.{Deadline, no-deadline, by, Request, read-request}
+use Rattle.rules.specs.Reading.{Deadline, no-deadline, by, Share, Request, read-request}
 use Rattle.rules.specs.Workflow.{Workflow, workflow}
 use Rattle.rules.specs.Cycle.{cyclic, lowest-in-cycle}
 use Rattle.rules.specs.Ranks.{cheapest-total}
-use Rattle.rules.specs.Method.{Method, HBCS}
+use Rattle.rules.specs.Method.{Method, HBCS, Cheapest, HEFT, Name, by-HBCS, by-cheapest, by-HEFT}
 use Rattle.rules.specs.Rows.{Row, Placed, row-of, spent, length-of}
 use Rattle.rules.specs.Placing.{place}
+use Rattle.rules.specs.Budget.{unbound, bound}
 
 -- What is decided: a plan of this workflow with its tasks placed, or a refusal, number and place.
 pub data Outcome : Type 0 where
@@ -33,26 +34,38 @@ too-late (by d) length = ltb d length
 unfoldable pub placed-outcome : Workflow → List Placed → Outcome
 placed-outcome W rows = refuse (too-late (W .deadline) (length-of rows)) 11 (length-of rows) (plan W rows)
 
--- "After reading: 7, 8, 9, then placing, then 11", with so many rows lent, where placing gives these rows.
--- 7: "fewer than n rows lent", place n; 8: "lowest task with a path back to itself"; 9: "the cheapest total".
+-- 7: "fewer than n rows lent", place n; 8: "lowest task with a path back to itself"; then what the later checks say.
+unfoldable pub checked : Workflow → ℕ → Outcome → Outcome
+checked W lent later = refuse (ltb lent (W .tasks)) 7 (W .tasks) (refuse (cyclic W) 8 (lowest-in-cycle W) later)
+
+-- "After reading: 7, 8, 9, then placing, then 11", with so many rows lent, where placing gives these rows. 9: "the cheapest total".
 unfoldable pub outcome-of : Workflow → ℕ → List Placed → Outcome
-outcome-of W lent rows =
-    refuse (ltb lent (W .tasks)) 7 (W .tasks)
-    (refuse (cyclic W) 8 (lowest-in-cycle W)
-    (refuse (ltb (W .budget) (cheapest-total W)) 9 (cheapest-total W)
-    (placed-outcome W rows)))
+outcome-of W lent rows = checked W lent (refuse (ltb (W .budget) (cheapest-total W)) 9 (cheapest-total W) (placed-outcome W rows))
 
 -- All tasks placed by any method.
 unfoldable pub outcome-by : Method → Workflow → ℕ → Outcome
 outcome-by M W lent = outcome-of W lent (place M W (W .tasks))
 
--- Refusals 1 to 6 are those of reading.
-unfoldable pub outcome-read : List ℕ → Read Request → ℕ → Outcome
-outcome-read s (read next r) lent = outcome-by HBCS (workflow s r) lent
-outcome-read s (stopped number place) lent = refusal number place
+-- "Asked for alone, these two are held to no budget: refusals 1 to 8 only, budget left 0."
+unfoldable pub outcome-alone : Method → Workflow → ℕ → Outcome
+outcome-alone M W lent = checked W lent (plan (unbound W) (place M (unbound W) (W .tasks)))
 
+unfoldable pub outcome-named : Name → Share → Workflow → ℕ → Outcome
+outcome-named by-HBCS share W lent = outcome-by HBCS (bound share W) lent
+outcome-named by-cheapest share W lent = outcome-alone Cheapest W lent
+outcome-named by-HEFT share W lent = outcome-alone HEFT W lent
+
+-- Refusals 1 to 6 are those of reading.
+unfoldable pub outcome-read : Name → List ℕ → Read Request → ℕ → Outcome
+outcome-read M s (read next r) lent = outcome-named M (r .share) (workflow s r) lent
+outcome-read M s (stopped number place) lent = refusal number place
+
+unfoldable pub outcome-asked : Name → List ℕ → ℕ → Outcome
+outcome-asked M s lent = outcome-read M s (read-request s) lent
+
+-- What the page answers with: the plan by HBCS.
 unfoldable pub outcome : List ℕ → ℕ → Outcome
-outcome s lent = outcome-read s (read-request s) lent
+outcome s lent = outcome-asked by-HBCS s lent
 
 -- "Either a plan summary (n, length, cost, budget left) or a refusal (number, place)."
 pub data Answer : Type 0 where
@@ -63,6 +76,9 @@ unfoldable pub answer-of : Outcome → Answer
 answer-of (plan W rows) = planned (W .tasks) (length-of rows) (spent rows) (W .budget - spent rows)
 answer-of (refusal number place) = refused number place
 
+unfoldable pub answer-asked : Name → List ℕ → ℕ → Answer
+answer-asked M s lent = answer-of (outcome-asked M s lent)
+
 unfoldable pub answer : List ℕ → ℕ → Answer
 answer s lent = answer-of (outcome s lent)
 
@@ -70,6 +86,9 @@ answer s lent = answer-of (outcome s lent)
 unfoldable pub written : Outcome → List Row → List Row
 written (plan W rows) lent = listing (W .tasks) (row-of rows) ++ drop (W .tasks) lent
 written (refusal number place) lent = lent
+
+unfoldable pub rows-asked : Name → List ℕ → List Row → List Row
+rows-asked M s lent = written (outcome-asked M s (length lent)) lent
 
 unfoldable pub rows-after : List ℕ → List Row → List Row
 rows-after s lent = written (outcome s (length lent)) lent

@@ -4,7 +4,8 @@ use mathlib.Core.List.{List, _++_}
 use lib.ListN.{length, drop, getD}
 use Rattle.rules.specs.Folds.{listing}
 use Rattle.rules.specs.Rows.{Row, row-of}
-use Rattle.rules.specs.Answer.{Outcome, plan, refusal, outcome}
+use Rattle.rules.specs.Method.{Name}
+use Rattle.rules.specs.Answer.{Outcome, plan, refusal, outcome-asked, outcome}
 
 pub record Buffers : Type 0 where
   pub processors : List ℕ
@@ -41,5 +42,8 @@ buffers-written o b =
     }
 
 -- The four buffers after the call.
+unfoldable pub buffers-asked : Name → List ℕ → Buffers → Buffers
+buffers-asked M s lent = buffers-written (outcome-asked M s (rows-lent lent)) lent
+
 unfoldable pub buffers-after : List ℕ → Buffers → Buffers
 buffers-after s lent = buffers-written (outcome s (rows-lent lent)) lent

@@ -7,26 +7,29 @@ use lib.ListN.{length, drop}
 use Rattle.label.specs.Length.{stands-in, all, is-label, length-up-to, label-length}
 use Rattle.rules.specs.Folds.{sum, largest, lowest, any, listing}
 use Rattle.rules.specs.Orders.{tie, lower, higher, among, first}
-use Rattle.rules.specs.Fields.{Kind, kind-byte, body, size, byte, two-bytes, four-bytes, H-tasks, H-processors, H-budget, D-deadline, P-processor}
-use Rattle.rules.specs.Fields.{P-price, Q-minimum, M-processor, M-begin, M-end, T-task, T-label, W-task, W-processor, W-minutes, E-from, E-to}
-use Rattle.rules.specs.Fields.{E-transfer}
+use Rattle.rules.specs.Fields.{Kind, kind-byte, body, size, byte, two-bytes, four-bytes, H-tasks, H-processors, H-budget, D-deadline, K-share}
+use Rattle.rules.specs.Fields.{P-processor, P-price, Q-minimum, M-processor, M-begin, M-end, T-task, T-label, W-task, W-processor, W-minutes}
+use Rattle.rules.specs.Fields.{E-from, E-to, E-transfer}
 use Rattle.rules.specs.Records.{Read, read, stopped, unless, first-fault, opening-by, opening, answered, record-at, within, header-at, deadline-at}
-use Rattle.rules.specs.Records.{price-checks, price-at, minimum-at, processor-at, follows, above, apart, fifth, window-ranges, window-at}
+use Rattle.rules.specs.Records.{share-at, price-checks, price-at, minimum-at, processor-at, follows, above, apart, fifth, window-ranges, window-at}
 use Rattle.rules.specs.Records.{task-at, minutes-at, edge-ranges, edge-at, end-at}
-use Rattle.rules.specs.Reading.{then, each, deadline-part, prices-part, counted, how-many, run-part, windows-part, task-part, tasks-part, edges-part}
-use Rattle.rules.specs.Reading.{nothing-after, Request, read-request}
+use Rattle.rules.specs.Reading.{then, each, optional, deadline-part, share-part, prices-part, counted, how-many, run-part, windows-part, task-part}
+use Rattle.rules.specs.Reading.{tasks-part, edges-part, nothing-after, Request, read-request}
 use Rattle.rules.specs.Workflow.{processor-kind, processor-minimum, past-processors, processor-place, window-place, task-place, minutes-place}
 use Rattle.rules.specs.Workflow.{edge-place, read-in, busy-with, window-of, windows-on, workflow}
 use Rattle.rules.specs.Labels.{part-of, label-place, label-part, label-in, label-lookup, label}
 use Rattle.rules.specs.Cycle.{linked, leads-through, back-to-itself, cyclic, lowest-in-cycle}
 use Rattle.rules.specs.Ranks.{cost, lowest-cost, cheapest-total, rank-by, rank-within, R, waits, may-be-next, next-task}
 use Rattle.rules.specs.Start.{arrival, arrived, ready, overlap, free, latest-end, if-free, least-end, start-on}
-use Rattle.rules.specs.Method.{best, may-be-taken, latest-finish, B, F, or-one, score, preferred, HBCS}
+use Rattle.rules.specs.Method.{best, may-be-taken, latest-finish, B, F, or-one, score, preferred, HBCS, Cheapest, HEFT, Name, method}
 use Rattle.rules.specs.Rows.{Row, row-of, is-placed, busy, spent, length-of}
 use Rattle.rules.specs.Placing.{ready-for, start-of, finish-of, RB, RCB, question, row-on, place-task, place-next, place}
-use Rattle.rules.specs.Answer.{Answer, refused, refuse, too-late, placed-outcome, outcome-of, outcome-by, outcome-read, outcome, answer-of, answer, written, rows-after}
+use Rattle.rules.specs.Budget.{in-force, unbound, cost-alone, budget-between, budget-of, bound}
+use Rattle.rules.specs.Answer.{Answer, refused, refuse, too-late, placed-outcome, checked, outcome-of, outcome-by, outcome-alone, outcome-named, outcome-read}
+use Rattle.rules.specs.Answer.{outcome-asked, outcome, answer-of, answer-asked, answer, written, rows-asked, rows-after}
 use Rattle.rules.specs.Multiplied.{multiplied-deadline, multiplied-interval, multiplied}
-use Rattle.rules.specs.Text.{bytes, digits, decimal, line, first-line, row-line, lines, row-lines, text}
+use Rattle.rules.specs.Text.{bytes, digits, decimal, line, first-line, row-line, lines, row-lines, text-asked, text, program-asked, program}
+use Rattle.rules.specs.Range.{range-of, range, range-line, range-text, range-program}
 
 -- A number below 65,536 in two bytes, and in four.
 abbrev pub in-two : ℕ → List ℕ
@@ -40,6 +43,9 @@ H-record n m budget = bytes "H" ++ (n ∷ m ∷ []) ++ in-four budget
 
 abbrev pub D-record : ℕ → List ℕ
 D-record deadline = bytes "D" ++ in-four deadline
+
+abbrev pub K-record : ℕ → List ℕ
+K-record share = bytes "K" ++ in-two share
 
 abbrev pub P-record : ℕ → ℕ → List ℕ
 P-record processor price = bytes "P" ++ (processor ∷ price ∷ [])
@@ -94,22 +100,25 @@ unfolding
     stands-in all is-label length-up-to label-length
     sum largest lowest any listing tie lower higher among first
     kind-byte body size byte two-bytes four-bytes
-    H-tasks H-processors H-budget D-deadline P-processor P-price Q-minimum M-processor M-begin M-end
+    H-tasks H-processors H-budget D-deadline K-share P-processor P-price Q-minimum M-processor M-begin M-end
     T-task T-label W-task W-processor W-minutes E-from E-to E-transfer
     unless first-fault opening-by opening answered record-at within
-    header-at deadline-at price-checks price-at minimum-at processor-at follows above apart fifth window-ranges window-at task-at minutes-at
+    header-at deadline-at share-at price-checks price-at minimum-at processor-at follows above apart fifth window-ranges window-at task-at minutes-at
     edge-ranges edge-at end-at
-    then each deadline-part prices-part counted how-many run-part windows-part task-part tasks-part edges-part nothing-after read-request
+    then each optional deadline-part share-part prices-part counted how-many run-part windows-part task-part tasks-part edges-part nothing-after read-request
     processor-kind processor-minimum past-processors processor-place window-place task-place minutes-place edge-place read-in
     busy-with window-of windows-on workflow
     part-of label-place label-part label-in label-lookup label
     linked leads-through back-to-itself cyclic lowest-in-cycle
     cost lowest-cost cheapest-total rank-by rank-within R waits may-be-next next-task
     arrival arrived ready overlap free latest-end if-free least-end start-on
-    best may-be-taken latest-finish B F or-one score preferred HBCS
+    best may-be-taken latest-finish B F or-one score preferred HBCS Cheapest HEFT method
     row-of is-placed busy ready-for start-of finish-of spent length-of RB RCB question row-on place-task place-next place
-    refuse too-late placed-outcome outcome-of outcome-by outcome-read outcome answer-of answer written rows-after
-    bytes digits decimal line first-line row-line lines row-lines text
+    in-force unbound cost-alone budget-between budget-of bound
+    refuse too-late placed-outcome checked outcome-of outcome-by outcome-alone outcome-named outcome-read outcome-asked outcome
+    answer-of answer-asked answer written rows-asked rows-after
+    bytes digits decimal line first-line row-line lines row-lines text-asked text program-asked program
+    range-of range range-line range-text range-program
 given c = record { answer = answer (c .input) (length (c .lent)); rows = rows-after (c .input) (c .lent) }
 
 -- In every case of a list the rules give what is due.
@@ -117,9 +126,18 @@ abbrev pub All-given : List Case → Type 0
 All-given [] = Unit {0}
 All-given (c ∷ cases) = (given c ≡ c .due) × All-given cases
 
+-- What they give by the method that is asked for.
+unfoldable pub given-by : Name → Case → Back
+unfolding given
+given-by M c = record { answer = answer-asked M (c .input) (length (c .lent)); rows = rows-asked M (c .input) (c .lent) }
+
+abbrev pub All-given-by : Name → List Case → Type 0
+All-given-by M [] = Unit {0}
+All-given-by M (c ∷ cases) = (given-by M c ≡ c .due) × All-given-by M cases
+
 -- The answer for a request whose workflow is multiplied after reading, with 64 rows lent; a refusal in reading stays.
 unfoldable pub multiplied-in : ℕ → ℕ → List ℕ → Read Request → Answer
-multiplied-in a b s (read next r) = answer-of (outcome-by HBCS (multiplied a b (workflow s r)) 64)
+multiplied-in a b s (read next r) = answer-of (outcome-by HBCS (bound (r .share) (multiplied a b (workflow s r))) 64)
 multiplied-in a b s (stopped number place) = refused number place
 
 unfoldable pub answer-multiplied : ℕ → ℕ → List ℕ → Answer

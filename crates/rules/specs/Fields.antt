@@ -5,11 +5,12 @@ use lib.ListN.{getD}
 
 -- Each kind's byte, and how many bytes its body has.
 pub data Kind : Type 0 where
-  H D P Q M T W E Z : Kind
+  H D K P Q M T W E Z : Kind
 
 unfoldable pub kind-byte : Kind → ℕ
 kind-byte H = 0x48
 kind-byte D = 0x44
+kind-byte K = 0x4B
 kind-byte P = 0x50
 kind-byte Q = 0x51
 kind-byte M = 0x4D
@@ -21,6 +22,7 @@ kind-byte Z = 0x5A
 unfoldable pub body : Kind → ℕ
 body H = 6
 body D = 4
+body K = 2
 body P = 2
 body Q = 4
 body M = 9
@@ -54,6 +56,9 @@ H-budget s at = four-bytes s (at + 3)
 
 unfoldable pub D-deadline : List ℕ → ℕ → ℕ
 D-deadline s at = four-bytes s (at + 1)
+
+unfoldable pub K-share : List ℕ → ℕ → ℕ
+K-share s at = two-bytes s (at + 1)
 
 unfoldable pub P-processor : List ℕ → ℕ → ℕ
 P-processor s at = byte s (at + 1)

@@ -11,10 +11,12 @@ pub mod Start
 pub mod Method
 pub mod Rows
 pub mod Placing
+pub mod Budget
 pub mod Answer
 pub mod Buffers
 pub mod Multiplied
 pub mod Text
+pub mod Range
 pub mod Cases
 pub mod Starred
 pub mod Corners

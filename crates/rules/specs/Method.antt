@@ -1,4 +1,4 @@
--- Choosing a processor for the task in hand: HBCS.
+-- Choosing a processor for the task in hand: HBCS, and the two methods between whose plans a budget is set.
 use Prim.Native.Nat.{ℕ, zero, suc, _+_, _*_, _-_}
 use mathlib.Core.Bool.{Bool, _&&_}
 use lib.Dec.{leb}
@@ -55,3 +55,20 @@ preferred q = among (may-be-taken q) (higher (score q) (lower (q .finish) tie))
 
 unfoldable pub HBCS : Method
 HBCS q = first (q .processors) (preferred q)
+
+-- "the cheapest plan (each task to its lowest cost, ties to earliest finish, then lower number)"
+unfoldable pub Cheapest : Method
+Cheapest q = first (q .processors) (lower (q .cost) (lower (q .finish) tie))
+
+-- "the plain HEFT plan (each task to best)"
+unfoldable pub HEFT : Method
+HEFT q = best q
+
+-- The three by name, as they are asked for.
+pub data Name : Type 0 where
+  by-HBCS by-cheapest by-HEFT : Name
+
+unfoldable pub method : Name → Method
+method by-HBCS = HBCS
+method by-cheapest = Cheapest
+method by-HEFT = HEFT

@@ -4,8 +4,9 @@ use mathlib.Core.Bool.{Bool, true, false, cond}
 use mathlib.Core.List.{List}
 use lib.ListN.{length}
 use lib.Dec.{ltb, eqb}
-use Rattle.rules.specs.Fields.{Kind, D, M, E, kind-byte, size, byte, H-tasks, H-processors, H-budget, D-deadline}
-use Rattle.rules.specs.Records.{Record, Read, read, stopped, header-at, deadline-at, processor-at, window-at, task-at, minutes-at, edge-at, end-at}
+use Rattle.rules.specs.Fields.{Kind, D, K, M, E, kind-byte, size, byte, H-tasks, H-processors, H-budget, D-deadline, K-share}
+use Rattle.rules.specs.Records.{Record, Read, read, stopped, header-at, deadline-at, share-at, processor-at, window-at, task-at, minutes-at, edge-at}
+use Rattle.rules.specs.Records.{end-at}
 
 -- "a refusal is handed straight up"; what was read goes to the next step, with the place past it.
 unfoldable pub then : {A B : Type 0} → Read A → (ℕ → A → Read B) → Read B
@@ -22,11 +23,21 @@ pub data Deadline : Type 0 where
   no-deadline : Deadline
   by : ℕ → Deadline
 
--- "`H`; at most one `D`": after `H` a `D` or the first processor record is due; after a `D` only that.
+-- "No `K` means the budget of `H`."
+pub data Share : Type 0 where
+  no-share : Share
+  thousandths : ℕ → Share
+
+-- "at most one" of a kind: what is given by the record that stands there, and what holds without one.
+unfoldable pub optional : {A : Type 0} → List ℕ → Kind → Read Record → (at : ℕ) → (given without : A) → Read A
+optional s kind part at given without = cond (eqb (byte s at) (kind-byte kind)) (then part (λ next _. read next given)) (read at without)
+
+-- "`H`; at most one `D`; at most one `K`": after `H` a `D`, a `K` or the first processor record is due; after a `D` a `K` or that; after a `K` only that.
 unfoldable pub deadline-part : List ℕ → ℕ → Read Deadline
-deadline-part s at =
-    let given = then (deadline-at s at) (λ next _. read next (by (D-deadline s at))) in
-    cond (eqb (byte s at) (kind-byte D)) given (read at no-deadline)
+deadline-part s at = optional s D (deadline-at s at) at (by (D-deadline s at)) no-deadline
+
+unfoldable pub share-part : List ℕ → (budget at : ℕ) → Read Share
+share-part s budget at = optional s K (share-at s budget at) at (thousandths (K-share s at)) no-share
 
 -- "`P` or `Q` for 0 to m-1"
 unfoldable pub prices-part : List ℕ → ℕ → ℕ → Read (Unit {0})
@@ -70,6 +81,7 @@ pub record Request : Type 0 where
   pub processors : ℕ
   pub budget : ℕ
   pub deadline : Deadline
+  pub share : Share
   pub prices-at : ℕ
   pub windows-at : ℕ
   pub windows : ℕ
@@ -89,7 +101,9 @@ read-request s =
     then (header-at s 0)
     (λ after-header _.
     then (deadline-part s after-header)
-    (λ prices-at deadline.
+    (λ after-deadline deadline.
+    then (share-part s (H-budget s 0) after-deadline)
+    (λ prices-at share.
     then (prices-part s m prices-at)
     (λ windows-at _.
     then (windows-part s m windows-at)
@@ -106,10 +120,11 @@ read-request s =
       processors = m;
       budget = H-budget s 0;
       deadline = deadline;
+      share = share;
       prices-at = prices-at;
       windows-at = windows-at;
       windows = windows;
       tasks-at = tasks-at;
       edges-at = edges-at;
       edges = edges;
-    }))))))))
+    })))))))))

@@ -5,13 +5,15 @@ use mathlib.Core.List.{List, [], _∷_, _++_}
 use lib.ListN.{length}
 use lib.Dec.{leb, ltb, eqb}
 use Rattle.label.specs.Length.{label-length}
-use Rattle.rules.specs.Fields.{Kind, H, D, P, Q, M, T, W, E, Z, kind-byte, size, byte, H-tasks, H-processors, H-budget, D-deadline, P-processor}
-use Rattle.rules.specs.Fields.{P-price, Q-minimum, M-processor, M-begin, M-end, T-task, T-label, W-task, W-processor, W-minutes, E-from, E-to, E-transfer}
+use Rattle.rules.specs.Fields.{Kind, H, D, K, P, Q, M, T, W, E, Z, kind-byte, size, byte, H-tasks, H-processors, H-budget, D-deadline}
+use Rattle.rules.specs.Fields.{K-share, P-processor, P-price, Q-minimum, M-processor, M-begin, M-end, T-task, T-label, W-task, W-processor, W-minutes}
+use Rattle.rules.specs.Fields.{E-from, E-to, E-transfer}
 
 -- A record with its fields.
 pub data Record : Type 0 where
   header : (tasks processors budget : ℕ) → Record
   deadline : (deadline : ℕ) → Record
+  share : (thousandths : ℕ) → Record
   price : (processor price : ℕ) → Record
   minimum : (processor price minimum : ℕ) → Record
   window : (processor begin end : ℕ) → Record
@@ -74,6 +76,12 @@ unfoldable pub deadline-at : List ℕ → ℕ → Read Record
 deadline-at s at =
     let d = D-deadline s at in
     record-at s at D (unless (within 1 d 200_000) 4 ∷ []) (deadline d)
+
+-- "share 0..1,000", and "the budget field in `H` is then 0": beside this budget in `H`.
+unfoldable pub share-at : List ℕ → (budget at : ℕ) → Read Record
+share-at s budget at =
+    let k = K-share s at in
+    record-at s at K (unless (within 0 k 1_000) 4 ∷ unless (eqb budget 0) 4 ∷ []) (share k)
 
 -- A processor record, `P` or `Q`, is processor j's: "price 0..100". A `Q` has one more check.
 unfoldable pub price-checks : List ℕ → ℕ → ℕ → List ℕ → List ℕ

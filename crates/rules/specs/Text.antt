@@ -9,7 +9,8 @@ use lib.ListN.{take}
 use lib.Dec.{ltb}
 use Rattle.rules.specs.Labels.{label}
 use Rattle.rules.specs.Rows.{Row, row-of}
-use Rattle.rules.specs.Answer.{Outcome, plan, refusal, outcome, Answer, planned, refused, answer}
+use Rattle.rules.specs.Method.{Name, by-HBCS}
+use Rattle.rules.specs.Answer.{Outcome, plan, refusal, outcome-asked, Answer, planned, refused, answer-asked}
 
 -- The bytes of a quoted text. Every text quoted in these files is ASCII.
 unfoldable pub bytes : String → List ℕ
@@ -49,10 +50,16 @@ unfoldable pub row-lines : List ℕ → Outcome → List ℕ
 row-lines s (plan W rows) = lines (W .tasks) (λ i. row-line (label s i) (row-of rows i))
 row-lines s (refusal number place) = []
 
--- "The program lends 64 rows": the text of the whole input s.
+-- "The program lends 64 rows": the text of the whole input s, by the method that is asked for.
+unfoldable pub text-asked : Name → List ℕ → List ℕ
+text-asked M s = first-line (answer-asked M s 64) ++ row-lines s (outcome-asked M s 64)
+
 unfoldable pub text : List ℕ → List ℕ
-text s = first-line (answer s 64) ++ row-lines s (outcome s 64)
+text s = text-asked by-HBCS s
 
 -- "and reads at most 16,384 bytes from standard input": what it writes.
+unfoldable pub program-asked : Name → List ℕ → List ℕ
+program-asked M input = text-asked M (take 16_384 input)
+
 unfoldable pub program : List ℕ → List ℕ
-program input = text (take 16_384 input)
+program input = program-asked by-HBCS input

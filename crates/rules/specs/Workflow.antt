@@ -74,6 +74,7 @@ unfoldable pub windows-on : List ℕ → Request → ℕ → ℕ → List Interv
 windows-on s r zero = λ j. []
 windows-on s r (suc k) = busy-with (M-processor s (window-place r k)) (window-of s (window-place r k)) (windows-on s r k)
 
+-- With the budget and the deadline as they were read; those in force may be others.
 unfoldable pub workflow : List ℕ → Request → Workflow
 workflow s r =
     record {
