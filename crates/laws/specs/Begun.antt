@@ -1,14 +1,16 @@
--- A workflow that begins otherwise: what its processors are busy with at first, and its clock, handed in. So a board's bookings and clock can be, and a
--- request's own windows are.
+-- A workflow that begins otherwise: its budget and its deadline, what its processors are busy with at first, and its clock, handed in. So what is in force can
+-- be, a board's bookings and clock, and a request's own windows are. What is said of tasks, edges and costs stays.
 use Prim.Native.Nat.{ℕ, zero, suc, _+_, _≤_, _<_}
-use mathlib.Core.Path.{_≡_, refl, sym, ap, _∙_}
+use mathlib.Core.Path.{_≡_, refl, sym, ap, _∙_, fun-ext}
 use mathlib.Core.Bool.{Bool, true, false, cond}
 use mathlib.Core.List.{List, [], _∷_}
 use lib.Dec.{eqb}
+use Rattle.rules.specs.Folds.{any}
 use Rattle.rules.specs.Orders as orders
 use Rattle.rules.specs.Orders.{tie, higher, first}
+use Rattle.rules.specs.Reading.{Deadline}
 use Rattle.rules.specs.Workflow.{Interval, Workflow, busy-with}
-use Rattle.rules.specs.Cycle.{Leads, edge, along}
+use Rattle.rules.specs.Cycle.{Leads, edge, along, linked, leads-through, back-to-itself, cyclic, lowest-in-cycle}
 use Rattle.rules.specs.Ranks.{cost, lowest-cost, rank-by, rank-within, R, waits, may-be-next, next-task}
 use Rattle.rules.specs.Start.{arrival, arrived, ready}
 use Rattle.rules.specs.Rows.{Placed, is-placed, taken-up, busy}
@@ -17,13 +19,13 @@ use Rattle.rules.specs.Placing.{ready-for, start-of, finish-of, RB, RCB, questi
 use Rattle.laws.specs.SameStart.{SameStart, same-start-more}
 use Rattle.laws.specs.Method.{ChoosesAmong}
 
-unfoldable pub begun : (ℕ → List Interval) → (clock : ℕ) → Workflow → Workflow
-begun busy-at-first clock W =
+unfoldable pub begun : (budget : ℕ) → Deadline → (ℕ → List Interval) → (clock : ℕ) → Workflow → Workflow
+begun budget deadline busy-at-first clock W =
     record {
       tasks = W .tasks;
       processors = W .processors;
-      budget = W .budget;
-      deadline = W .deadline;
+      budget = budget;
+      deadline = deadline;
       price = W .price;
       minimum = W .minimum;
       busy-at-first = busy-at-first;
@@ -35,33 +37,54 @@ begun busy-at-first clock W =
       transfer = W .transfer;
     }
 
--- Ranks don't depend on that.
-rank-begun : (f : ℕ → List Interval) (clock : ℕ) (W : Workflow) (most : ℕ) → rank-within (begun f clock W) most ≡ rank-within W most
-unfolding rank-within rank-by begun
-rank-begun f clock W zero = refl
-rank-begun f clock W (suc most) = ap (rank-by W) (rank-begun f clock W most)
+module _ (budget : ℕ) (deadline : Deadline) (f : ℕ → List Interval) (clock : ℕ) (W : Workflow) where
+  abbrev so : Workflow
+  so = begun budget deadline f clock W
 
-pub R-begun : (f : ℕ → List Interval) (clock : ℕ) (W : Workflow) → R (begun f clock W) ≡ R W
-unfolding R begun
-R-begun f clock W = rank-begun f clock W (W .tasks)
+  -- Ranks don't depend on that.
+  rank-begun : (most : ℕ) → rank-within so most ≡ rank-within W most
+  unfolding rank-within rank-by begun
+  rank-begun zero = refl
+  rank-begun (suc most) = ap (rank-by W) (rank-begun most)
 
--- Nor do paths.
-leads-begun : (f : ℕ → List Interval) (clock : ℕ) (W : Workflow) {i k : ℕ} → Leads (begun f clock W) i k → Leads W i k
-unfolding begun
-leads-begun f clock W (edge e l) = edge e l
-leads-begun f clock W (along e l p) = along e l (leads-begun f clock W p)
+  pub R-begun : R so ≡ R W
+  unfolding R begun
+  R-begun = rank-begun (W .tasks)
 
-pub acyclic-begun : (f : ℕ → List Interval) (clock : ℕ) (W : Workflow) → ((i : ℕ) → Leads W i i → ⊥) → (i : ℕ) → Leads (begun f clock W) i i → ⊥
-acyclic-begun f clock W acyclic i p = acyclic i (leads-begun f clock W p)
+  -- Nor do paths.
+  leads-begun : {i k : ℕ} → Leads so i k → Leads W i k
+  unfolding begun
+  leads-begun (edge e l) = edge e l
+  leads-begun (along e l p) = along e l (leads-begun p)
 
--- Where each processor is busy at first with what gives the same starts, the tasks are placed alike.
-module _ {M : Method} (among : ChoosesAmong M) (W : Workflow) (some : 1 ≤ W .processors) (clock : ℕ) (f g : ℕ → List Interval)
+  pub acyclic-begun : ((i : ℕ) → Leads W i i → ⊥) → (i : ℕ) → Leads so i i → ⊥
+  acyclic-begun acyclic i p = acyclic i (leads-begun p)
+
+  through-begun : (between i k : ℕ) → leads-through so between i k ≡ leads-through W between i k
+  unfolding leads-through linked begun
+  through-begun zero i k = refl
+  through-begun (suc between) i k = rw (through-begun between i k, through-begun between i between, through-begun between between k) refl
+
+  back-begun : back-to-itself so ≡ back-to-itself W
+  unfolding back-to-itself begun
+  back-begun = fun-ext (λ i. through-begun (W .tasks) i i)
+
+  pub cyclic-begun : cyclic so ≡ cyclic W
+  unfolding cyclic begun
+  cyclic-begun = ap (any (W .tasks)) back-begun
+
+  pub lowest-in-cycle-begun : lowest-in-cycle so ≡ lowest-in-cycle W
+  unfolding lowest-in-cycle begun
+  lowest-in-cycle-begun = ap (λ back. first (W .tasks) (orders.among back tie)) back-begun
+
+-- Where each processor is busy at first with what gives the same starts, the tasks are placed alike; whatever the deadline.
+module _ {M : Method} (among : ChoosesAmong M) (W : Workflow) (some : 1 ≤ W .processors) (budget clock : ℕ) (d d′ : Deadline) (f g : ℕ → List Interval)
     (alike : (j : ℕ) → j < W .processors → SameStart (f j) (g j)) where
   abbrev one : Workflow
-  one = begun f clock W
+  one = begun budget d f clock W
 
   abbrev other : Workflow
-  other = begun g clock W
+  other = begun budget d′ g clock W
 
   busy-alike : (rows : List Placed) (j : ℕ) → j < W .processors → SameStart (busy one rows j) (busy other rows j)
   unfolding busy busy-with begun
@@ -97,7 +120,7 @@ module _ {M : Method} (among : ChoosesAmong M) (W : Workflow) (some : 1 ≤ W .p
     same-task : next-task one (is-placed rows) ≡ next-task other (is-placed rows)
     unfolding next-task may-be-next waits begun
     same-task =
-        ap (λ r. first (W .tasks) (orders.among (may-be-next W (is-placed rows)) (higher r tie))) (R-begun f clock W ∙ sym (R-begun g clock W))
+        ap (λ r. first (W .tasks) (orders.among (may-be-next W (is-placed rows)) (higher r tie))) (R-begun budget d f clock W ∙ sym (R-begun budget d′ g clock W))
 
     taken : (i : ℕ) → M (question other rows i) < W .processors
     unfolding question begun

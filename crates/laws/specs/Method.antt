@@ -1,4 +1,4 @@
--- The method looks at nothing but the processors there are, and takes one of them; the best finishes earliest.
+-- Each method looks at nothing but the processors there are, and takes one of them; the best finishes earliest.
 use Prim.Native.Nat.{ℕ, zero, suc, _≤_, _<_, min}
 use mathlib.Core.Path.{_≡_, refl, ap, _∙_}
 use mathlib.Core.Bool.{true}
@@ -6,7 +6,7 @@ use mathlib.Core.Logic.{⊎-elim}
 use native.Mathlib.Omega.{arith}
 use Rattle.rules.specs.Folds.{lowest}
 use Rattle.rules.specs.Orders.{Order, lower, first}
-use Rattle.rules.specs.Method.{Question, Method, best, may-be-taken, latest-finish, B, F, or-one, score, preferred, HBCS}
+use Rattle.rules.specs.Method.{Question, Method, best, may-be-taken, latest-finish, B, F, or-one, score, preferred, HBCS, Cheapest, HEFT, Name, by-HBCS, by-cheapest, by-HEFT, method}
 use Rattle.laws.specs.Tests.{cond-either}
 use Rattle.laws.specs.Folds.{largest-same, lowest-same}
 use Rattle.laws.specs.Orders.{lower-true, lower-false, lower-same, higher-same, among-same}
@@ -52,6 +52,12 @@ module _ (m : ℕ) (some : 1 ≤ m) (c d f g : ℕ → ℕ) (b k : ℕ)
       first-same m _ _ (λ i j l n.
       lower-same f g _ _ i j (finishes i l) (finishes j n) (lower-same c d _ _ i j (costs i l) (costs j n) refl))
 
+  cheapest-same : Cheapest one ≡ Cheapest other
+  unfolding Cheapest
+  cheapest-same =
+      first-same m _ _ (λ i j l n.
+      lower-same c d _ _ i j (costs i l) (costs j n) (lower-same f g _ _ i j (finishes i l) (finishes j n) refl))
+
   best-cost-same : c (best one) ≡ d (best other)
   best-cost-same = ap c best-same ∙ costs (best other) (unfold best in first-below m _ some)
 
@@ -80,21 +86,36 @@ module _ (m : ℕ) (some : 1 ≤ m) (c d f g : ℕ → ℕ) (b k : ℕ)
       (higher-same (score one) (score other) _ _ i j (score-same i l) (score-same j n)
       (lower-same f g _ _ i j (finishes i l) (finishes j n) refl)))
 
--- They have the same choice.
-pub HBCS-same : (q r : Question) → 1 ≤ q .processors → Same q r → HBCS q ≡ HBCS r
-HBCS-same q r some same =
-    choice-same (q .processors) some (q .cost) (r .cost) (q .finish) (r .finish) (q .RB) (q .RCB) (same .cost) (same .finish)
-    ∙ (λ t. HBCS (record { processors = same .processors t; cost = r .cost; finish = r .finish; RB = same .RB t; RCB = same .RCB t }))
-
--- What it takes is one of the processors there are.
-pub HBCS-takes-processor : (q : Question) → 1 ≤ q .processors → HBCS q < q .processors
-unfolding HBCS
-HBCS-takes-processor q some = first-below (q .processors) (preferred q) some
-
 -- What placing asks of a method: it takes one of the processors, and where two questions are the same for these it chooses the same.
 pub record ChoosesAmong (M : Method) : Type 0 where
   pub takes-processor : (q : Question) → 1 ≤ q .processors → M q < q .processors
   pub alike : (q r : Question) → 1 ≤ q .processors → Same q r → M q ≡ M r
 
+-- Where it chooses the same whenever costs and finishes are the same on each processor, it does so for two such questions.
+alike-by :
+    (M : Method)
+    → ((m : ℕ) → 1 ≤ m → (c d f g : ℕ → ℕ) (b k : ℕ) → ((j : ℕ) → j < m → c j ≡ d j) → ((j : ℕ) → j < m → f j ≡ g j)
+    → M (record { processors = m; cost = c; finish = f; RB = b; RCB = k }) ≡ M (record { processors = m; cost = d; finish = g; RB = b; RCB = k }))
+    → (q r : Question) → 1 ≤ q .processors → Same q r → M q ≡ M r
+alike-by M chooses q r some same =
+    chooses (q .processors) some (q .cost) (r .cost) (q .finish) (r .finish) (q .RB) (q .RCB) (same .cost) (same .finish)
+    ∙ (λ t. M (record { processors = same .processors t; cost = r .cost; finish = r .finish; RB = same .RB t; RCB = same .RCB t }))
+
 pub HBCS-chooses-among : ChoosesAmong HBCS
-HBCS-chooses-among = record { takes-processor = HBCS-takes-processor; alike = HBCS-same }
+HBCS-chooses-among =
+    record { takes-processor = λ q some. unfold HBCS in first-below (q .processors) (preferred q) some; alike = alike-by HBCS choice-same }
+
+pub Cheapest-chooses-among : ChoosesAmong Cheapest
+Cheapest-chooses-among =
+    record { takes-processor = λ q some. unfold Cheapest in first-below (q .processors) _ some; alike = alike-by Cheapest cheapest-same }
+
+pub HEFT-chooses-among : ChoosesAmong HEFT
+unfolding HEFT
+HEFT-chooses-among =
+    record { takes-processor = λ q some. unfold best in first-below (q .processors) _ some; alike = alike-by HEFT best-same }
+
+pub method-chooses-among : (M : Name) → ChoosesAmong (method M)
+unfolding method
+method-chooses-among by-HBCS = HBCS-chooses-among
+method-chooses-among by-cheapest = Cheapest-chooses-among
+method-chooses-among by-HEFT = HEFT-chooses-among
