@@ -10,11 +10,11 @@ use borrow.Author.Tests.{leb-true, le-leb}
 use Rattle.label.specs.Label.{Label}
 use Rattle.label.specs.Length.{label-length}
 use Rattle.label.specs.Laws.{label-length-is-length, length-is-label-length}
-use Rattle.rules.specs.Fields.{Kind, H, D, P, Q, M, T, W, E, Z, body, size, byte, two-bytes, four-bytes, H-tasks, H-processors, H-budget, D-deadline}
-use Rattle.rules.specs.Fields.{P-processor, P-price, Q-minimum, M-processor, M-begin, M-end, T-task, T-label, W-task, W-processor, W-minutes, E-from, E-to}
+use Rattle.rules.specs.Fields.{Kind, H, D, K, P, Q, M, T, W, E, Z, body, size, byte, two-bytes, four-bytes, H-tasks, H-processors, H-budget, D-deadline}
+use Rattle.rules.specs.Fields.{K-share, P-processor, P-price, Q-minimum, M-processor, M-begin, M-end, T-task, T-label, W-task, W-processor, W-minutes, E-from, E-to}
 use Rattle.rules.specs.Fields.{E-transfer}
-use Rattle.rules.specs.Records.{Record, end, opening-by, opening, record-at, header-at, deadline-at, price-checks, price-at, minimum-at, processor-at}
-use Rattle.rules.specs.Records.{follows, above, apart, fifth, window-ranges, window-at, task-at, minutes-at, edge-at, end-at}
+use Rattle.rules.specs.Records.{Record, end, opening-by, opening, record-at, header-at, deadline-at, share-at, price-checks, price-at, minimum-at}
+use Rattle.rules.specs.Records.{processor-at, follows, above, apart, fifth, window-ranges, window-at, task-at, minutes-at, edge-at, end-at}
 
 pub record Agree (N : ℕ) (s t : List ℕ) : Type 0 where
   pub same-byte : (at : ℕ) → at < N → byte s at ≡ byte t at
@@ -44,7 +44,7 @@ module _ {N : ℕ} {s t : List ℕ} (a : Agree N s t) where
         none = λ none len l. found .none none len (label-agrees (agree-sym a) h l);
       })
 
-  two-agree : (at : ℕ) → at + 2 ≤ N → two-bytes s at ≡ two-bytes t at
+  pub two-agree : (at : ℕ) → at + 2 ≤ N → two-bytes s at ≡ two-bytes t at
   unfolding two-bytes
   two-agree at h = rw (a .same-byte at (omega arith), a .same-byte (at + 1) (omega arith))
 
@@ -66,6 +66,10 @@ module _ {N : ℕ} {s t : List ℕ} (a : Agree N s t) where
   pub deadline-agrees : (at : ℕ) → at + size D ≤ N → deadline-at s at ≡ deadline-at t at
   unfolding deadline-at size body D-deadline
   deadline-agrees at h = rw (four-agree (at + 1) (omega arith)) (record-agrees at D _ _ h)
+
+  pub share-agrees : (budget at : ℕ) → at + size K ≤ N → share-at s budget at ≡ share-at t budget at
+  unfolding share-at size body K-share
+  share-agrees budget at h = rw (two-agree (at + 1) (omega arith)) (record-agrees at K _ _ h)
 
   price-agrees : (at j : ℕ) → at + size P ≤ N → price-at s at j ≡ price-at t at j
   unfolding price-at price-checks size body P-processor P-price

@@ -1,20 +1,21 @@
 -- Two inputs that agree up to N bytes have the same parts wherever those end within N, since reading goes forward by whole records.
-use mathlib.Core.Path.{_≡_, refl}
+use mathlib.Core.Path.{_≡_, refl, ap}
 use Prim.Native.Nat.{ℕ, zero, suc, _+_, _*_, _<_, _≤_}
 use native.Mathlib.Nat.{suc-mul, mul-le-mul-right}
 use native.Mathlib.Omega.{arith}
 use mathlib.Core.List.{List}
-use Rattle.rules.specs.Fields.{Kind, D, Q, M, T, W, E, size, body, D-deadline}
+use Rattle.rules.specs.Fields.{Kind, D, K, Q, M, T, W, E, size, body, D-deadline, K-share}
 use Rattle.rules.specs.Records.{Record, Read, read, stopped}
-use Rattle.rules.specs.Reading.{then, each, deadline-part, prices-part, counted, how-many, run-part, windows-part, task-part, tasks-part, edges-part}
-use Rattle.rules.specs.Reading.{nothing-after, Request}
+use Rattle.rules.specs.Reading.{then, each, by, thousandths, optional, deadline-part, share-part, prices-part, counted, how-many, run-part, windows-part}
+use Rattle.rules.specs.Reading.{task-part, tasks-part, edges-part, nothing-after, Request}
 use Rattle.rules.specs.Workflow.{past-processors}
 use Rattle.good.specs.Reading.{Walks, Steps, by-stride, each-ends}
 use Rattle.good.specs.Kinds.{task-read}
 use Rattle.good.specs.Processors.{processors-walk, past-processors-most}
 use Rattle.good.specs.Parts.{minutes-steps, task-steps}
 use Rattle.good.specs.Runs.{how-many-at-most, edge-steps, window-steps}
-use Rattle.good.specs.Agree.{Agree, four-agree, deadline-agrees, processor-agrees, window-agrees, task-agrees, minutes-agrees, edge-agrees}
+use Rattle.good.specs.Agree.{Agree, two-agree, four-agree, deadline-agrees, share-agrees, processor-agrees, window-agrees, task-agrees}
+use Rattle.good.specs.Agree.{minutes-agrees, edge-agrees}
 
 -- The same step, and the same after it wherever it was read.
 pub then-agrees : {A B : Type 0} {x y : Read A} {f g : ℕ → A → Read B} →
@@ -36,10 +37,20 @@ each-agrees walk other (suc k) same =
     (λ next _ e. then-agrees (rw (each-ends walk k e) (same k (omega arith))) (λ after _ _. refl))
 
 module _ {N : ℕ} {s t : List ℕ} (a : Agree N s t) where
+  optional-agrees : {A : Type 0} {one other : A} {part same : Read Record} (kind : Kind) (at : ℕ) (without : A) → at < N →
+      part ≡ same → one ≡ other → optional s kind part at one without ≡ optional t kind same at other without
+  unfolding optional
+  optional-agrees kind at without h same-part same-given = rw (a .same-byte at h, same-part, same-given)
+
   pub deadline-part-agrees : (at : ℕ) → at + size D ≤ N → deadline-part s at ≡ deadline-part t at
   unfolding deadline-part D-deadline size body
   deadline-part-agrees at h =
-      rw (a .same-byte at (omega arith), deadline-agrees a at h, four-agree a (at + 1) (omega arith))
+      optional-agrees D at _ (omega arith) (deadline-agrees a at h) (ap by (four-agree a (at + 1) (omega arith)))
+
+  pub share-part-agrees : (budget at : ℕ) → at + size K ≤ N → share-part s budget at ≡ share-part t budget at
+  unfolding share-part K-share size body
+  share-part-agrees budget at h =
+      optional-agrees K at _ (omega arith) (share-agrees a budget at h) (ap thousandths (two-agree a (at + 1) (omega arith)))
 
   pub prices-agree : (m at : ℕ) → at + m * size Q ≤ N → prices-part s m at ≡ prices-part t m at
   unfolding prices-part size body

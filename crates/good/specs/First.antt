@@ -1,4 +1,4 @@
--- Reading looks at no byte from `looked-at-most` on: past the header, deadline, processors, windows and tasks come at most 513 records of 5 bytes.
+-- Reading looks at no byte from `looked-at-most` on: past the header, deadline, share, processors, windows and tasks come at most 513 records of 5 bytes.
 -- So inputs that agree so far are read alike, and the first 16,384 bytes of an input are read as the whole of it.
 use mathlib.Core.Path.{_≡_, refl}
 use Prim.Native.Nat.{ℕ, _≤_, min}
@@ -14,11 +14,12 @@ use Rattle.rules.specs.Reading.{read-request}
 use Rattle.good.specs.Ranges.{looked-at-most}
 use Rattle.good.specs.Kinds.{header-read, end-read}
 use Rattle.good.specs.Processors.{past-processors-most}
-use Rattle.good.specs.Parts.{deadline-part-read, prices-read, tasks-read}
+use Rattle.good.specs.Parts.{deadline-part-read, share-part-read, prices-read, tasks-read}
 use Rattle.good.specs.Runs.{edges-read, windows-read, windows-at-most}
 use Rattle.good.specs.RangeLaws.{tasks-at-most}
 use Rattle.good.specs.Agree.{Agree, four-agree, header-agrees, end-agrees}
-use Rattle.good.specs.AgreeParts.{then-agrees, deadline-part-agrees, prices-agree, windows-agree, tasks-agree, edges-agree, nothing-agrees}
+use Rattle.good.specs.AgreeParts.{then-agrees, deadline-part-agrees, share-part-agrees, prices-agree, windows-agree, tasks-agree, edges-agree}
+use Rattle.good.specs.AgreeParts.{nothing-agrees}
 
 -- Inputs that agree so far, or further, are read alike.
 pub read-agrees : {N : ℕ} {s t : List ℕ} → Agree N s t → looked-at-most ≤ N → read-request s ≡ read-request t
@@ -29,30 +30,33 @@ read-agrees {N} {s} {t} a far =
     (λ after-header _ e₁.
     let h = header-read s 0 e₁ in
     then-agrees (deadline-part-agrees a after-header (omega arith))
-    (λ prices-at deadline e₂.
+    (λ after-deadline deadline e₂.
     let d = deadline-part-read s after-header e₂ in
+    then-agrees (share-part-agrees a _ after-deadline (omega arith))
+    (λ prices-at share e₃.
+    let k = share-part-read s _ after-deadline e₃ in
     then-agrees (prices-agree a _ prices-at (omega arith))
-    (λ windows-at _ e₃.
-    let (prices-end, processor-in) = prices-read s _ prices-at e₃ in
+    (λ windows-at _ e₄.
+    let (prices-end, processor-in) = prices-read s _ prices-at e₄ in
     let processors = past-processors-most s prices-at (H-processors s 0) in
     then-agrees (windows-agree a _ windows-at (omega arith))
-    (λ tasks-at windows e₄.
-    let w = windows-read s _ windows-at e₄ in
+    (λ tasks-at windows e₅.
+    let w = windows-read s _ windows-at e₅ in
     let few-windows = windows-at-most w (h .processors-in .to-high) in
     let windows-end = w .ends in
     let tasks = tasks-at-most (h .tasks-in .to-high) (h .processors-in .to-high) in
     then-agrees (tasks-agree a _ _ tasks-at (omega arith))
-    (λ edges-at _ e₅.
-    let (tasks-end, task-in) = tasks-read s _ _ tasks-at e₅ in
+    (λ edges-at _ e₆.
+    let (tasks-end, task-in) = tasks-read s _ _ tasks-at e₆ in
     then-agrees (edges-agree a _ edges-at (omega arith))
-    (λ after-edges edges e₆.
-    let f = edges-read s _ edges-at e₆ in
+    (λ after-edges edges e₇.
+    let f = edges-read s _ edges-at e₇ in
     let few-edges = f .few in
     let edges-end = f .ends in
     then-agrees (end-agrees a after-edges (omega arith))
-    (λ after-end _ e₇.
-    let (ends, whole) = end-read s after-edges e₇ in
-    nothing-agrees a after-end _ (omega arith)))))))))
+    (λ after-end _ e₈.
+    let (ends, whole) = end-read s after-edges e₈ in
+    nothing-agrees a after-end _ (omega arith))))))))))
 
 reach-of-first : (N len past : ℕ) → past ≤ N → leb past (min N len) ≡ leb past len
 reach-of-first N len past h = go (leb past len) refl

@@ -6,7 +6,7 @@ use lib.ListN.{length}
 use Rattle.label.specs.Label.{Label}
 use Rattle.label.specs.Length.{label-length}
 use Rattle.rules.specs.Fields.{Z, size, P-price, M-processor, M-begin, M-end, W-minutes, E-from, E-to, E-transfer}
-use Rattle.rules.specs.Reading.{by, Request}
+use Rattle.rules.specs.Reading.{by, thousandths, Request}
 use Rattle.rules.specs.Workflow.{processor-minimum, processor-place, window-place, task-place, minutes-place, edge-place}
 use Rattle.rules.specs.Labels.{label-place}
 
@@ -43,9 +43,10 @@ pub record Good (s : List ℕ) (r : Request) : Type 0 where
   pub processors-in : Between 1 (r .processors) 16
   pub budget-in : r .budget ≤ 20_000_000
   pub deadline-in : (d : ℕ) → r .deadline ≡ by d → Between 1 d 200_000
+  pub share-in : (k : ℕ) → r .share ≡ thousandths k → (k ≤ 1_000) × (r .budget ≡ 0)
   pub windows-in : r .windows ≤ 64
   pub edges-in : r .edges ≤ 512
-  pub prices-begin : Between 7 (r .prices-at) 12
+  pub prices-begin : Between 7 (r .prices-at) 15
   pub windows-begin : r .windows-at ≡ processor-place s r (r .processors)
   pub tasks-begin : r .tasks-at ≡ window-place r (r .windows)
   pub edges-begin : r .edges-at ≡ task-place r (r .tasks)

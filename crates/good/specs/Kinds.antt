@@ -10,10 +10,10 @@ use borrow.Author.Tests.{leb-true, ltb-true, eqb-true, eqb-false, not-true, le-l
 use Rattle.label.specs.Label.{Label}
 use Rattle.label.specs.Length.{label-length}
 use Rattle.label.specs.Laws.{label-of-label-length}
-use Rattle.rules.specs.Fields.{Kind, H, D, P, Q, M, T, W, E, Z, kind-byte, size, byte, H-tasks, H-processors, H-budget, D-deadline, P-price, Q-minimum, T-label}
-use Rattle.rules.specs.Fields.{M-processor, M-begin, M-end, W-minutes, E-from, E-to}
-use Rattle.rules.specs.Records.{Record, read, within, header-at, deadline-at, price-checks, price-at, minimum-at, processor-at, task-at, minutes-at}
-use Rattle.rules.specs.Records.{follows, above, apart, fifth, window-ranges, window-at, edge-ranges, edge-at, end-at}
+use Rattle.rules.specs.Fields.{Kind, H, D, K, P, Q, M, T, W, E, Z, kind-byte, size, byte, H-tasks, H-processors, H-budget, D-deadline, K-share, P-price}
+use Rattle.rules.specs.Fields.{Q-minimum, T-label, M-processor, M-begin, M-end, W-minutes, E-from, E-to}
+use Rattle.rules.specs.Records.{Record, read, within, header-at, deadline-at, share-at, price-checks, price-at, minimum-at, processor-at, task-at}
+use Rattle.rules.specs.Records.{minutes-at, follows, above, apart, fifth, window-ranges, window-at, edge-ranges, edge-at, end-at}
 use Rattle.rules.specs.Workflow.{processor-kind, processor-minimum}
 use Rattle.good.specs.Good.{Between, GoodEdge, GoodWindow, Above, Apart}
 use Rattle.good.specs.Records.{passed, record-read}
@@ -50,6 +50,14 @@ unfolding deadline-at
 deadline-read s at e =
     let found = record-read s at D _ _ e in
     (found .ends, between _ _ _ (passed _ 3 _ (found .no-fault) .0))
+
+pub share-read : (s : List ℕ) (budget at : ℕ) {next : ℕ} {was : Record} →
+    share-at s budget at ≡ read next was → (next ≡ at + size K) × (K-share s at ≤ 1_000) × (budget ≡ 0)
+unfolding share-at
+share-read s budget at e =
+    let found = record-read s at K _ _ e in
+    let (share, more) = passed _ 3 _ (found .no-fault) in
+    (found .ends, between _ _ _ share .to-high, eqb-true _ _ (passed _ 3 _ more .0))
 
 -- A processor record, `P` or `Q`.
 pub record ProcessorRead (s : List ℕ) (at next : ℕ) : Type 0 where

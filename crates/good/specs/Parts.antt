@@ -1,5 +1,5 @@
--- The parts of a request that were read, each record at its place: processors, tasks with their minutes, and the deadline.
-use mathlib.Core.Path.{_≡_}
+-- The parts of a request that were read, each record at its place: processors, tasks with their minutes, the deadline and the share.
+use mathlib.Core.Path.{_≡_, subst}
 use Prim.Native.Nat.{ℕ, _+_, _*_, _<_, _≤_}
 use native.Mathlib.Omega.{arith}
 use mathlib.Core.Bool.{Bool, true, false, cond}
@@ -7,13 +7,13 @@ use mathlib.Core.List.{List}
 use lib.Dec.{eqb}
 use Rattle.label.specs.Label.{Label}
 use Rattle.label.specs.Length.{label-length}
-use Rattle.rules.specs.Fields.{D, T, W, size, kind-byte, byte, D-deadline, T-label, W-minutes}
-use Rattle.rules.specs.Records.{read, deadline-at, minutes-at}
-use Rattle.rules.specs.Reading.{then, Deadline, no-deadline, by, deadline-part, prices-part, task-part, tasks-part}
+use Rattle.rules.specs.Fields.{Kind, D, K, T, W, size, kind-byte, byte, D-deadline, K-share, T-label, W-minutes}
+use Rattle.rules.specs.Records.{Record, Read, read, minutes-at}
+use Rattle.rules.specs.Reading.{then, Deadline, by, Share, thousandths, optional, deadline-part, share-part, prices-part, task-part, tasks-part}
 use Rattle.rules.specs.Workflow.{past-processors}
 use Rattle.good.specs.Good.{Between}
 use Rattle.good.specs.Reading.{then-read, Steps, by-stride, each-ends, each-part}
-use Rattle.good.specs.Kinds.{deadline-read, ProcessorRead, processor-read, task-read, minutes-read}
+use Rattle.good.specs.Kinds.{deadline-read, share-read, ProcessorRead, processor-read, task-read, minutes-read}
 use Rattle.good.specs.Processors.{processors-walk}
 
 pub minutes-steps : (s : List ℕ) (i : ℕ) → Steps (λ at j. minutes-at s at i j) (size W)
@@ -44,37 +44,45 @@ task-part-read s m at i {next} e =
 pub task-steps : (s : List ℕ) (m : ℕ) → Steps (task-part s m) (size T + m * size W)
 task-steps s m at i next a e = task-part-read s m at i e .ends
 
--- The deadline, or none, was read, and the prices begin at `next`.
-pub record DeadlineRead (at next : ℕ) (d : Deadline) : Type 0 where
+-- "at most one" of a kind was read, and what comes after it begins at `next`; this holds of what was given, or of what holds without one.
+pub record OptionalRead (kind : Kind) (at next : ℕ) (Holds : Type 0) : Type 0 where
   pub begins : at ≤ next
-  pub ends : next ≤ at + size D
-  pub deadline-in : (x : ℕ) → d ≡ by x → Between 1 x 200_000
+  pub ends : next ≤ at + size kind
+  pub holds : Holds
 
-pub deadline-part-read : (s : List ℕ) (at : ℕ) {next : ℕ} {d : Deadline} → deadline-part s at ≡ read next d → DeadlineRead at next d
-unfolding deadline-part
-deadline-part-read s at {next} {d} e = go (eqb (byte s at) (kind-byte D)) e
+optional-read : {A : Type 0} {next : ℕ} {a : A} (s : List ℕ) (kind : Kind) (part : Read Record) (at : ℕ) (given without : A) (Holds : A → Type 0) →
+    ((next : ℕ) (was : Record) → part ≡ read next was → (next ≡ at + size kind) × Holds given) → Holds without →
+    optional s kind part at given without ≡ read next a → OptionalRead kind at next (Holds a)
+unfolding optional
+optional-read {A} {next} {a} s kind part at given without Holds one none e = go (eqb (byte s at) (kind-byte kind)) e
   where
-    go : (t : Bool) → cond t (then (deadline-at s at) (λ next _. read next (by (D-deadline s at)))) (read at no-deadline) ≡ read next d →
-        DeadlineRead at next d
+    go : (t : Bool) → cond t (then part (λ next _. read next given)) (read at without) ≡ read next a → OptionalRead kind at next (Holds a)
     go true p =
         let (place, was, here, done) = then-read _ _ p in
-        let (ends, deadline-in) = deadline-read s at here in
-        let same : place ≡ next = cc in
-        record {
-          begins = omega arith;
-          ends = omega arith;
-          deadline-in =
-              λ x is.
-              let given : D-deadline s at ≡ x = cc in
-              rw given at deadline-in;
-        }
+        let (ends, holds) = one place was here in
+        let there : place ≡ next = cc in
+        let same : given ≡ a = cc in
+        record { begins = omega arith; ends = omega arith; holds = subst Holds same holds }
     go false p =
-        let same : at ≡ next = cc in
-        record {
-          begins = omega arith;
-          ends = omega arith;
-          deadline-in = λ x is. let z : _≡_ {A = ℕ} 0 1 = cc in absurd (omega arith);
-        }
+        let there : at ≡ next = cc in
+        let same : without ≡ a = cc in
+        record { begins = omega arith; ends = omega arith; holds = subst Holds same none }
+
+pub deadline-part-read : (s : List ℕ) (at : ℕ) {next : ℕ} {d : Deadline} → deadline-part s at ≡ read next d →
+    OptionalRead D at next ((x : ℕ) → d ≡ by x → Between 1 x 200_000)
+unfolding deadline-part
+deadline-part-read s at =
+    optional-read s D _ at _ _ (λ d. (x : ℕ) → d ≡ by x → Between 1 x 200_000)
+    (λ next was e. let (ends, deadline-in) = deadline-read s at e in (ends, λ x is. let given : D-deadline s at ≡ x = cc in rw given at deadline-in))
+    (λ x is. let z : _≡_ {A = ℕ} 0 1 = cc in absurd (omega arith))
+
+pub share-part-read : (s : List ℕ) (budget at : ℕ) {next : ℕ} {k : Share} → share-part s budget at ≡ read next k →
+    OptionalRead K at next ((x : ℕ) → k ≡ thousandths x → (x ≤ 1_000) × (budget ≡ 0))
+unfolding share-part
+share-part-read s budget at =
+    optional-read s K _ at _ _ (λ k. (x : ℕ) → k ≡ thousandths x → (x ≤ 1_000) × (budget ≡ 0))
+    (λ next was e. let (ends, share-in, beside) = share-read s budget at e in (ends, λ x is. let given : K-share s at ≡ x = cc in (rw given at share-in, beside)))
+    (λ x is. let z : _≡_ {A = ℕ} 0 1 = cc in absurd (omega arith))
 
 pub prices-read : (s : List ℕ) (m at : ℕ) {next : ℕ} → prices-part s m at ≡ read next tt →
     (next ≡ past-processors s at m) × ((j : ℕ) → j < m → (after : ℕ) × ProcessorRead s (past-processors s at j) after)

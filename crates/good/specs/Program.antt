@@ -9,9 +9,12 @@ use lib.Seq.{take-all}
 use Rattle.rules.specs.Records.{Read, read, stopped}
 use Rattle.rules.specs.Reading.{Request, read-request}
 use Rattle.rules.specs.Labels.{part-of, label-lookup, label}
+use Rattle.rules.specs.Method.{Name, by-HBCS, by-cheapest, by-HEFT}
 use Rattle.rules.specs.Rows.{Row}
-use Rattle.rules.specs.Answer.{refusal, outcome-read, outcome, answer-of, answer, rows-after}
-use Rattle.rules.specs.Text.{row-lines, text, program}
+use Rattle.rules.specs.Answer.{refusal, outcome-read, outcome-asked, outcome, answer-of, answer-asked, answer, rows-asked, rows-after}
+use Rattle.rules.specs.Buffers.{Buffers, buffers-asked}
+use Rattle.rules.specs.Text.{row-lines, text-asked, text, program-asked, program}
+use Rattle.rules.specs.Range.{range, range-line, range-text, range-program}
 use Rattle.good.specs.ReadIsGood.{read-is-good}
 use Rattle.good.specs.RangeLaws.{good-length}
 use Rattle.good.specs.Labels.{no-label-refused}
@@ -29,13 +32,36 @@ first-alike f refused s = go (read-request s) refl
     go (read end r) e = ap f (take-all 16_384 s (omega (arith, good-length s r (read-is-good s e))))
     go (stopped number place) e = refused (take 16_384 s) s number place (read-first s ∙ e) e
 
-refused-outcome : (s : List ℕ) (lent : ℕ) {number place : ℕ} →
-    read-request s ≡ stopped number place → outcome s lent ≡ refusal number place
-unfolding outcome outcome-read
-refused-outcome s lent e = rw e
+module _ (M : Name) where
+  refused-outcome : (s : List ℕ) (lent : ℕ) {number place : ℕ} →
+      read-request s ≡ stopped number place → outcome-asked M s lent ≡ refusal number place
+  unfolding outcome-asked outcome-read
+  refused-outcome s lent e = rw e
+
+  pub outcome-asked-first : (s : List ℕ) (lent : ℕ) → outcome-asked M (take 16_384 s) lent ≡ outcome-asked M s lent
+  outcome-asked-first s lent =
+      first-alike (λ x. outcome-asked M x lent) (λ s t number place e e′. rw (refused-outcome s lent e, refused-outcome t lent e′)) s
+
+  pub answer-asked-first : (s : List ℕ) (lent : ℕ) → answer-asked M (take 16_384 s) lent ≡ answer-asked M s lent
+  unfolding answer-asked
+  answer-asked-first s lent = ap answer-of (outcome-asked-first s lent)
+
+  pub rows-asked-first : (s : List ℕ) (lent : List Row) → rows-asked M (take 16_384 s) lent ≡ rows-asked M s lent
+  unfolding rows-asked
+  rows-asked-first s lent = rw outcome-asked-first
+
+  pub buffers-asked-first : (s : List ℕ) (lent : Buffers) → buffers-asked M (take 16_384 s) lent ≡ buffers-asked M s lent
+  unfolding buffers-asked
+  buffers-asked-first s lent = rw outcome-asked-first
+
+  pub program-asked-is-text : (input : List ℕ) → program-asked M input ≡ text-asked M input
+  unfolding program-asked text-asked answer-asked row-lines
+  program-asked-is-text input =
+      first-alike (text-asked M) (λ s t number place e e′. rw (refused-outcome s 64 e, refused-outcome t 64 e′)) input
 
 pub outcome-first : (s : List ℕ) (lent : ℕ) → outcome (take 16_384 s) lent ≡ outcome s lent
-outcome-first s lent = first-alike (λ x. outcome x lent) (λ s t number place e e′. rw (refused-outcome s lent e, refused-outcome t lent e′)) s
+unfolding outcome
+outcome-first = outcome-asked-first by-HBCS
 
 pub answer-first : (s : List ℕ) (lent : ℕ) → answer (take 16_384 s) lent ≡ answer s lent
 unfolding answer
@@ -45,14 +71,21 @@ pub rows-after-first : (s : List ℕ) (lent : List Row) → rows-after (take 16_
 unfolding rows-after
 rows-after-first s lent = rw outcome-first
 
+pub program-is-text : (input : List ℕ) → program input ≡ text input
+unfolding program text
+program-is-text = program-asked-is-text by-HBCS
+
+pub range-first : (s : List ℕ) → range (take 16_384 s) ≡ range s
+unfolding range
+range-first s = rw (answer-asked-first by-cheapest s 64, answer-asked-first by-HEFT s 64)
+
+pub range-program-is-text : (input : List ℕ) → range-program input ≡ range-text input
+unfolding range-program range-text
+range-program-is-text input = ap range-line (range-first input)
+
 pub label-lookup-first : (s : List ℕ) (i : ℕ) → label-lookup (take 16_384 s) i ≡ label-lookup s i
 label-lookup-first s i = first-alike (λ x. label-lookup x i) (λ s t number place e e′. rw (no-label-refused s i e, no-label-refused t i e′)) s
 
 pub label-first : (s : List ℕ) (i : ℕ) → label (take 16_384 s) i ≡ label s i
 unfolding label part-of
 label-first s i = first-alike (λ x. label x i) (λ s t number place e e′. rw (no-label-refused s i e, no-label-refused t i e′)) s
-
-pub program-is-text : (input : List ℕ) → program input ≡ text input
-unfolding program text answer row-lines
-program-is-text input =
-    first-alike text (λ s t number place e e′. rw (refused-outcome s 64 e, refused-outcome t 64 e′)) input

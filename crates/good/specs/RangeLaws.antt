@@ -84,7 +84,7 @@ tasks-at-most {m} few narrow =
     let a-task : 10 + m * 5 ≤ 90 = omega arith in
     mul-le-mul few a-task
 
--- "So a good request, one not refused with 1 to 6, has at most 9,053 bytes."
+-- "So a good request, one not refused with 1 to 6, has at most 9,056 bytes."
 pub good-length : (s : List ℕ) (r : Request) → Good s r → length s ≤ request-most
 unfolding processor-place window-place task-place edge-place size body
 good-length s r g =

@@ -25,12 +25,12 @@ pub record InRange (W : Workflow) : Type 0 where
   pub from-rises : (e : ℕ) → e + 1 < W .edges → W .from e ≤ W .from (e + 1)
   pub to-rises : (e : ℕ) → e + 1 < W .edges → W .from e ≡ W .from (e + 1) → W .to e < W .to (e + 1)
 
--- The most bytes of a good request: `H`, `D`, 16 `Q`s, four `M`s for each, 64 tasks with a `T` and 16 `W`s each, 512 `E`s and `Z`.
+-- The most bytes of a good request: `H`, `D`, `K`, 16 `Q`s, four `M`s for each, 64 tasks with a `T` and 16 `W`s each, 512 `E`s and `Z`.
 abbrev pub request-most : ℕ
-request-most = 7 + 5 + 16 * 5 + 16 * 4 * 10 + 64 * (10 + 16 * 5) + 512 * 5 + 1
+request-most = 7 + 5 + 3 + 16 * 5 + 16 * 4 * 10 + 64 * (10 + 16 * 5) + 512 * 5 + 1
 
--- "has at most 9,053 bytes"
-pub request-most-is : request-most ≡ 9_053
+-- "has at most 9,056 bytes"
+pub request-most-is : request-most ≡ 9_056
 request-most-is = refl
 
 -- Reading looks at no byte from there on: a 513th edge may stand where `Z` does.

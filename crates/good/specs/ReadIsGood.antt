@@ -16,7 +16,7 @@ use Rattle.good.specs.Good.{Between, Good}
 use Rattle.good.specs.Records.{stopped-not-read}
 use Rattle.good.specs.Reading.{then-read}
 use Rattle.good.specs.Kinds.{header-read, end-read}
-use Rattle.good.specs.Parts.{deadline-part-read, prices-read, tasks-read}
+use Rattle.good.specs.Parts.{deadline-part-read, share-part-read, prices-read, tasks-read}
 use Rattle.good.specs.Runs.{edges-read, windows-read, windows-at-most}
 
 nothing-after-read : (s : List ℕ) (at : ℕ) (r : Request) {end : ℕ} {was : Request} →
@@ -29,9 +29,10 @@ nothing-after-read s at r {end} {was} e = go (ltb at (length s)) refl e
     go true more p = absurd (stopped-not-read p)
     go false none p = (ltb-false at (length s) none, cc, cc)
 
--- Past `H` and at most one `D`.
-past-deadline : {after at : ℕ} → after ≡ 7 → after ≤ at → at ≤ after + 5 → Between 7 at 12
-past-deadline is from to = record { from-low = omega arith; to-high = omega arith }
+-- Past `H`, at most one `D` and at most one `K`.
+past-share : {after-header after-deadline at : ℕ} → after-header ≡ 7 → after-header ≤ after-deadline → after-deadline ≤ after-header + 5 →
+    after-deadline ≤ at → at ≤ after-deadline + 3 → Between 7 at 15
+past-share is from to more most = record { from-low = omega arith; to-high = omega arith }
 
 -- Past `Z` the input has ended.
 past-end : (after : ℕ) {len at : ℕ} → at ≡ after + 1 → after + 1 ≤ len → len ≤ at → len ≡ at
@@ -41,15 +42,17 @@ good-and-end : (s : List ℕ) {end : ℕ} {r : Request} → read-request s ≡ r
 unfolding read-request processor-place window-place task-place minutes-place edge-place label-place size body
 good-and-end s {end} {r} e =
     let (after-header, was, header, e₁) = then-read _ _ e in
-    let (prices-at, deadline, deadline-part, e₂) = then-read _ _ e₁ in
-    let (windows-at, u, prices, e₃) = then-read _ _ e₂ in
-    let (tasks-at, windows, windows-part, e₄) = then-read _ _ e₃ in
-    let (edges-at, u, tasks, e₅) = then-read _ _ e₄ in
-    let (after-edges, edges, edges-part, e₆) = then-read _ _ e₅ in
-    let (after-end, was, end, e₇) = then-read _ _ e₆ in
-    let (nothing, ended, same) = nothing-after-read s after-end _ e₇ in
+    let (after-deadline, deadline, deadline-part, e₂) = then-read _ _ e₁ in
+    let (prices-at, share, share-part, e₃) = then-read _ _ e₂ in
+    let (windows-at, u, prices, e₄) = then-read _ _ e₃ in
+    let (tasks-at, windows, windows-part, e₅) = then-read _ _ e₄ in
+    let (edges-at, u, tasks, e₆) = then-read _ _ e₅ in
+    let (after-edges, edges, edges-part, e₇) = then-read _ _ e₆ in
+    let (after-end, was, end, e₈) = then-read _ _ e₇ in
+    let (nothing, ended, same) = nothing-after-read s after-end _ e₈ in
     let h = header-read s 0 header in
     let d = deadline-part-read s after-header deadline-part in
+    let k = share-part-read s _ after-deadline share-part in
     let (prices-end, processor-in) = prices-read s _ prices-at prices in
     let (tasks-end, task-in) = tasks-read s _ _ tasks-at tasks in
     let w = windows-read s _ windows-at windows-part in
@@ -60,10 +63,11 @@ good-and-end s {end} {r} e =
             tasks-in = h .tasks-in;
             processors-in = h .processors-in;
             budget-in = h .budget-in;
-            deadline-in = d .deadline-in;
+            deadline-in = d .holds;
+            share-in = k .holds;
             windows-in = windows-at-most w (h .processors-in .to-high);
             edges-in = f .few;
-            prices-begin = past-deadline (h .ends) (d .begins) (d .ends);
+            prices-begin = past-share (h .ends) (d .begins) (d .ends) (k .begins) (k .ends);
             windows-begin = prices-end;
             tasks-begin = w .ends;
             edges-begin = tasks-end;
