@@ -2,7 +2,7 @@
 use mathlib.Core.Path.{_≡_, refl, sym, _∙_, ap}
 use Rattle.rules.specs.Records as rules
 use Rattle.records.specs.declared.Record.{Record}
-use Rattle.records.specs.declared.Record.the-variants.{Header, Deadline, Price, Minimum, Window, Task, Minutes, Edge, End}
+use Rattle.records.specs.declared.Record.the-variants.{Header, Deadline, Share, Price, Minimum, Window, Task, Minutes, Edge, End}
 use Rattle.records.specs.declared.RecordAnswer.{RecordAnswer}
 use Rattle.records.specs.declared.RecordAnswer.the-variants.{Read, Refused}
 use Rattle.records.specs.Meaning.{meant-record, meant}
@@ -11,6 +11,7 @@ use Rattle.records.specs.Meaning.{meant-record, meant}
 record-for : rules.Record → Record
 record-for (rules.header tasks processors budget) = Header tasks processors budget
 record-for (rules.deadline deadline) = Deadline deadline
+record-for (rules.share share) = Share share
 record-for (rules.price processor price) = Price processor price
 record-for (rules.minimum processor price minimum) = Minimum processor price minimum
 record-for (rules.window processor begin end) = Window processor begin end
@@ -27,6 +28,7 @@ record-again : (r : Record) → record-for (meant-record r) ≡ r
 unfolding record-for
 record-again (Header tasks processors budget) = refl
 record-again (Deadline deadline) = refl
+record-again (Share share) = refl
 record-again (Price processor price) = refl
 record-again (Minimum processor price minimum) = refl
 record-again (Window processor begin end) = refl

@@ -5,7 +5,7 @@ ghost use mathlib.Core.List.{[], _++_};
 ghost use lib.ListN.{length};
 ghost use Rattle.rules.specs.Fields.{byte};
 ghost use Rattle.rules.specs.Records.{first-fault, opening-by, price-checks};
-ghost use Rattle.rules.specs.Records.{header-at, deadline-at, price-at, minimum-at, processor-at, task-at, minutes-at, end-at};
+ghost use Rattle.rules.specs.Records.{header-at, deadline-at, share-at, price-at, minimum-at, processor-at, task-at, minutes-at, end-at};
 ghost use Rattle.records.specs.Meaning.{meant};
 
 // Where a record begins.
@@ -22,6 +22,9 @@ pub enum Record {
     },
     Deadline {
         deadline: u64,
+    },
+    Share {
+        share: u64,
     },
     Price {
         processor: usize,
@@ -113,6 +116,25 @@ pub fn read_deadline(s: &[u8], c: Cursor) -> RecordAnswer
         return RecordAnswer::Refused(4, at);
     }
     RecordAnswer::Read(Cursor { at: at + 5 }, Record::Deadline { deadline })
+}
+
+// `K`: share 0..1,000, beside a budget of 0 in `H`.
+pub fn read_share(s: &[u8], c: Cursor, budget: u64) -> RecordAnswer
+    ensures { λ r. ⌜ meant r ≡ share-at (now (s .entry)) budget (c .at) ⌝ }
+{
+    let at = c.at;
+    let fault = fields::opening_fault(s, at, b'K', 3);
+    if fault != 0 {
+        return RecordAnswer::Refused(fault, at);
+    }
+    let share = fields::two_bytes(s, at, 1);
+    if fields::outside(0, share, 1_000) {
+        return RecordAnswer::Refused(4, at);
+    }
+    if budget != 0 {
+        return RecordAnswer::Refused(4, at);
+    }
+    RecordAnswer::Read(Cursor { at: at + 3 }, Record::Share { share })
 }
 
 // What is wrong with the processor record of this kind at `at`, by what `P` and `Q` share: its opening, then 3 where another processor is due, then 4
