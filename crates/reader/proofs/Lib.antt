@@ -1,4 +1,5 @@
 pub mod Laws
 pub mod Found
 pub mod RunLaws
+pub mod OptionalLaws
 pub mod RequestLaws

@@ -6,7 +6,7 @@ use lib.ListN.{length}
 use borrow.Author.Tests.{lt-ltb, le-ltb}
 use Rattle.rules.specs.Fields.{H-tasks, H-processors, H-budget}
 use Rattle.rules.specs.Records.{Record, Read, read, stopped, header, header-at, end-at}
-use Rattle.rules.specs.Reading.{then, Deadline, deadline-part, prices-part, windows-part, tasks-part, edges-part}
+use Rattle.rules.specs.Reading.{then, Deadline, Share, deadline-part, share-part, prices-part, windows-part, tasks-part, edges-part}
 use Rattle.rules.specs.Reading.{Request, nothing-after, read-request}
 use Rattle.good.specs.ReadIsGood.{read-to-the-end}
 use Rattle.records.specs.declared.Cursor.{Cursor}
@@ -28,17 +28,28 @@ pub record Headed : Type 0 where
   pub processors : ℕ
   pub budget : ℕ
 
+-- An input with what stands before its processors, which begin there.
+pub record Begun : Type 0 where
+  pub headed : Headed
+  pub deadline : Deadline
+  pub share : Share
+  pub prices-at : ℕ
+
 -- What is left to read past the end, and from each part on, with what the parts before it gave.
-module _ (h : Headed) where
-  abbrev pub past-end : Deadline → (prices-at windows-at windows tasks-at edges-at edges end : ℕ) → Read Request
-  past-end d prices-at windows-at windows tasks-at edges-at edges end =
+module _ (b : Begun) where
+  abbrev h : Headed
+  h = b .headed
+
+  abbrev pub past-end : (windows-at windows tasks-at edges-at edges end : ℕ) → Read Request
+  past-end windows-at windows tasks-at edges-at edges end =
       nothing-after (h .input) end
       (record {
         tasks = h .tasks;
         processors = h .processors;
         budget = h .budget;
-        deadline = d;
-        prices-at = prices-at;
+        deadline = b .deadline;
+        share = b .share;
+        prices-at = b .prices-at;
         windows-at = windows-at;
         windows = windows;
         tasks-at = tasks-at;
@@ -46,27 +57,33 @@ module _ (h : Headed) where
         edges = edges;
       })
 
-  abbrev pub from-end : Deadline → (prices-at windows-at windows tasks-at edges-at edges at : ℕ) → Read Request
-  from-end d prices-at windows-at windows tasks-at edges-at edges at =
-      then (end-at (h .input) at) (λ end _. past-end d prices-at windows-at windows tasks-at edges-at edges end)
+  abbrev pub from-end : (windows-at windows tasks-at edges-at edges at : ℕ) → Read Request
+  from-end windows-at windows tasks-at edges-at edges at =
+      then (end-at (h .input) at) (λ end _. past-end windows-at windows tasks-at edges-at edges end)
 
-  abbrev pub from-edges : Deadline → (prices-at windows-at windows tasks-at edges-at : ℕ) → Read Request
-  from-edges d prices-at windows-at windows tasks-at edges-at =
-      then (edges-part (h .input) (h .tasks) edges-at) (λ at edges. from-end d prices-at windows-at windows tasks-at edges-at edges at)
+  abbrev pub from-edges : (windows-at windows tasks-at edges-at : ℕ) → Read Request
+  from-edges windows-at windows tasks-at edges-at =
+      then (edges-part (h .input) (h .tasks) edges-at) (λ at edges. from-end windows-at windows tasks-at edges-at edges at)
 
-  abbrev pub from-tasks : Deadline → (prices-at windows-at windows tasks-at : ℕ) → Read Request
-  from-tasks d prices-at windows-at windows tasks-at =
-      then (tasks-part (h .input) (h .tasks) (h .processors) tasks-at) (λ edges-at _. from-edges d prices-at windows-at windows tasks-at edges-at)
+  abbrev pub from-tasks : (windows-at windows tasks-at : ℕ) → Read Request
+  from-tasks windows-at windows tasks-at =
+      then (tasks-part (h .input) (h .tasks) (h .processors) tasks-at) (λ edges-at _. from-edges windows-at windows tasks-at edges-at)
 
-  abbrev pub from-windows : Deadline → (prices-at windows-at : ℕ) → Read Request
-  from-windows d prices-at windows-at =
-      then (windows-part (h .input) (h .processors) windows-at) (λ tasks-at windows. from-tasks d prices-at windows-at windows tasks-at)
+  abbrev pub from-windows : (windows-at : ℕ) → Read Request
+  from-windows windows-at =
+      then (windows-part (h .input) (h .processors) windows-at) (λ tasks-at windows. from-tasks windows-at windows tasks-at)
 
-  abbrev pub from-prices : Deadline → (prices-at : ℕ) → Read Request
-  from-prices d prices-at = then (prices-part (h .input) (h .processors) prices-at) (λ windows-at _. from-windows d prices-at windows-at)
+  abbrev pub from-prices : Read Request
+  from-prices = then (prices-part (h .input) (h .processors) (b .prices-at)) (λ windows-at _. from-windows windows-at)
+
+module _ (h : Headed) where
+  abbrev pub from-share : Deadline → (at : ℕ) → Read Request
+  from-share d at =
+      then (share-part (h .input) (h .budget) at)
+      (λ prices-at k. from-prices (record { headed = h; deadline = d; share = k; prices-at = prices-at }))
 
   abbrev pub from-deadline : (at : ℕ) → Read Request
-  from-deadline at = then (deadline-part (h .input) at) (λ prices-at d. from-prices d prices-at)
+  from-deadline at = then (deadline-part (h .input) at) (λ after d. from-share d after)
 
 -- A record that is due by itself, the header or the end.
 module _ (s : List ℕ) {due : Read Record} (step : ℕ → Record → Read Request) (left : read-request s ≡ then due step)

@@ -12,6 +12,8 @@ use Rattle.reader.specs.declared.Passed.{Passed}
 use Rattle.reader.specs.declared.Passed.the-variants as passed
 use Rattle.reader.specs.declared.Deadline.{Deadline}
 use Rattle.reader.specs.declared.Deadline.the-variants as deadline
+use Rattle.reader.specs.declared.Share.{Share}
+use Rattle.reader.specs.declared.Share.the-variants as share
 use Rattle.reader.specs.declared.View.{View}
 use Rattle.reader.specs.declared.Reading.{Reading}
 use Rattle.reader.specs.declared.Reading.the-variants as reading
@@ -25,6 +27,10 @@ abbrev pub meant-deadline : Deadline → request.Deadline
 meant-deadline deadline.Without = request.no-deadline
 meant-deadline (deadline.By minutes) = request.by minutes
 
+abbrev pub meant-share : Share → request.Share
+meant-share share.Without = request.no-share
+meant-share (share.Of thousandths) = request.thousandths thousandths
+
 -- A view holds the numbers of a good request, and where its parts begin.
 abbrev pub meant-view : View → request.Request
 meant-view v =
@@ -33,6 +39,7 @@ meant-view v =
       processors = v .processors;
       budget = v .budget;
       deadline = meant-deadline (v .deadline);
+      share = meant-share (v .share);
       prices-at = v .«prices_at»;
       windows-at = v .«windows_at»;
       windows = v .windows;

@@ -5,15 +5,21 @@ use mathlib.Core.List.{List}
 use Rattle.rules.specs.Records.{Read, read, stopped}
 use Rattle.rules.specs.Reading as rules
 use Rattle.reader.specs.declared.Deadline.{Deadline}
-use Rattle.reader.specs.declared.Deadline.the-variants.{Without, By}
+use Rattle.reader.specs.declared.Deadline.the-variants as deadline
+use Rattle.reader.specs.declared.Share.{Share}
+use Rattle.reader.specs.declared.Share.the-variants as share
 use Rattle.reader.specs.declared.Reading.{Reading}
 use Rattle.reader.specs.declared.Reading.the-variants.{Good, Refused}
-use Rattle.reader.specs.Meaning.{meant-deadline, meant-reading}
+use Rattle.reader.specs.Meaning.{meant-deadline, meant-share, meant-reading}
 
--- The deadline and the answer that mean this.
+-- The deadline, the share and the answer that mean this.
 deadline-for : rules.Deadline → Deadline
-deadline-for rules.no-deadline = Without
-deadline-for (rules.by minutes) = By minutes
+deadline-for rules.no-deadline = deadline.Without
+deadline-for (rules.by minutes) = deadline.By minutes
+
+share-for : rules.Share → Share
+share-for rules.no-share = share.Without
+share-for (rules.thousandths k) = share.Of k
 
 reading-for : Read rules.Request → Reading
 reading-for (read end r) =
@@ -23,6 +29,7 @@ reading-for (read end r) =
       processors = r .processors;
       budget = r .budget;
       deadline = deadline-for (r .deadline);
+      share = share-for (r .share);
       «prices_at» = r .prices-at;
       «windows_at» = r .windows-at;
       windows = r .windows;
@@ -34,8 +41,13 @@ reading-for (stopped number place) = Refused number place
 
 deadline-again : (d : Deadline) → deadline-for (meant-deadline d) ≡ d
 unfolding deadline-for
-deadline-again Without = refl
-deadline-again (By minutes) = refl
+deadline-again deadline.Without = refl
+deadline-again (deadline.By minutes) = refl
+
+share-again : (k : Share) → share-for (meant-share k) ≡ k
+unfolding share-for
+share-again share.Without = refl
+share-again (share.Of k) = refl
 
 reading-again : (s : List ℕ) (a : Reading) → reading-for (meant-reading s a) ≡ a
 unfolding reading-for
@@ -46,6 +58,7 @@ reading-again s (Good v) =
       processors = v .processors;
       budget = v .budget;
       deadline = deadline-again (v .deadline) i;
+      share = share-again (v .share) i;
       «prices_at» = v .«prices_at»;
       «windows_at» = v .«windows_at»;
       windows = v .windows;

@@ -1,8 +1,8 @@
 // Reads a whole request: its records in order, each refusal handed straight up, and nothing after the last.
 ghost use mathlib.Core.Path.{_≡_};
 ghost use Rattle.rules.specs.Records.{minutes-at};
-ghost use Rattle.rules.specs.Reading.{each, deadline-part, prices-part, windows-part, task-part, tasks-part, edges-part, read-request};
-ghost use Rattle.reader.specs.Meaning.{meant-part, meant-deadline, meant-reading, past, refusal-of};
+ghost use Rattle.rules.specs.Reading.{each, deadline-part, share-part, prices-part, windows-part, task-part, tasks-part, edges-part, read-request};
+ghost use Rattle.reader.specs.Meaning.{meant-part, meant-deadline, meant-share, meant-reading, past, refusal-of};
 use records::Cursor;
 use records::Record;
 use records::RecordAnswer;
@@ -60,6 +60,46 @@ fn read_deadline(s: &[u8], c: Cursor) -> DeadlinePart
     DeadlinePart {
         passed: Passed::To(after),
         deadline: Deadline::By(deadline),
+    }
+}
+
+// "No `K` means the budget of `H`."
+pub enum Share {
+    Without,
+    Of(u64),
+}
+
+pub struct SharePart {
+    pub passed: Passed,
+    pub share: Share,
+}
+
+// After the header and any deadline: a `K`, where one stands there, beside this budget in the header.
+fn read_share(s: &[u8], c: Cursor, budget: u64) -> SharePart
+    ensures { λ r. ⌜ meant-part (r .passed) (meant-share (r .share)) ≡ share-part (now (s .entry)) budget (c .at) ⌝ }
+{
+    if records::kind(s, c) != b'K' {
+        return SharePart {
+            passed: Passed::To(c),
+            share: Share::Without,
+        };
+    }
+    let answer = records::read_share(s, c, budget);
+    let RecordAnswer::Read(after, found) = answer else {
+        return SharePart {
+            passed: handed_up(answer),
+            share: Share::Without,
+        };
+    };
+    let Record::Share { share } = found else {
+        return SharePart {
+            passed: handed_up(answer),
+            share: Share::Without,
+        };
+    };
+    SharePart {
+        passed: Passed::To(after),
+        share: Share::Of(share),
     }
 }
 
@@ -197,6 +237,7 @@ pub struct View {
     pub processors: usize,
     pub budget: u64,
     pub deadline: Deadline,
+    pub share: Share,
     pub prices_at: usize,
     pub windows_at: usize,
     pub windows: usize,
@@ -240,8 +281,14 @@ pub fn read_request(s: &[u8]) -> Reading
     let due = read_deadline(s, headed);
     let dated = due.passed;
     let deadline = due.deadline;
-    let Passed::To(prices) = dated else {
+    let Passed::To(after) = dated else {
         return refused(dated);
+    };
+    let set = read_share(s, after, budget);
+    let shared = set.passed;
+    let share = set.share;
+    let Passed::To(prices) = shared else {
+        return refused(shared);
     };
     let priced = read_prices(s, prices, processors);
     let Passed::To(windows) = priced else {
@@ -273,6 +320,7 @@ pub fn read_request(s: &[u8]) -> Reading
         processors,
         budget,
         deadline,
+        share,
         prices_at: prices.at,
         windows_at: windows.at,
         windows: upkeep.count,
