@@ -9,11 +9,11 @@ use lib.Seq.{take-all}
 use Rattle.rules.specs.Records.{Read, read, stopped}
 use Rattle.rules.specs.Reading.{Request, read-request}
 use Rattle.rules.specs.Labels.{part-of, label-lookup, label}
-use Rattle.rules.specs.Method.{Name, by-HBCS, by-cheapest, by-HEFT}
+use Rattle.rules.specs.Method.{Name, by-cheapest, by-HEFT}
 use Rattle.rules.specs.Rows.{Row}
-use Rattle.rules.specs.Answer.{refusal, outcome-read, outcome-asked, outcome, answer-of, answer-asked, answer, rows-asked, rows-after}
+use Rattle.rules.specs.Answer.{refusal, outcome-read, outcome-asked, answer-of, answer-asked, rows-asked}
 use Rattle.rules.specs.Buffers.{Buffers, buffers-asked}
-use Rattle.rules.specs.Text.{row-lines, text-asked, text, program-asked, program}
+use Rattle.rules.specs.Text.{row-lines, text-asked, program-asked}
 use Rattle.rules.specs.Range.{range, range-line, range-text, range-program}
 use Rattle.good.specs.ReadIsGood.{read-is-good}
 use Rattle.good.specs.RangeLaws.{good-length}
@@ -58,22 +58,6 @@ module _ (M : Name) where
   unfolding program-asked text-asked answer-asked row-lines
   program-asked-is-text input =
       first-alike (text-asked M) (λ s t number place e e′. rw (refused-outcome s 64 e, refused-outcome t 64 e′)) input
-
-pub outcome-first : (s : List ℕ) (lent : ℕ) → outcome (take 16_384 s) lent ≡ outcome s lent
-unfolding outcome
-outcome-first = outcome-asked-first by-HBCS
-
-pub answer-first : (s : List ℕ) (lent : ℕ) → answer (take 16_384 s) lent ≡ answer s lent
-unfolding answer
-answer-first s lent = ap answer-of (outcome-first s lent)
-
-pub rows-after-first : (s : List ℕ) (lent : List Row) → rows-after (take 16_384 s) lent ≡ rows-after s lent
-unfolding rows-after
-rows-after-first s lent = rw outcome-first
-
-pub program-is-text : (input : List ℕ) → program input ≡ text input
-unfolding program text
-program-is-text = program-asked-is-text by-HBCS
 
 pub range-first : (s : List ℕ) → range (take 16_384 s) ≡ range s
 unfolding range

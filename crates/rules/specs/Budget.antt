@@ -1,10 +1,11 @@
 -- The budget in force: that of `H`, or the one that a `K` sets between two plans.
 use Prim.Native.Nat.{ℕ, _+_, _*_, _-_, _/_}
-use Rattle.rules.specs.Reading.{Deadline, no-deadline, Share, no-share, thousandths}
-use Rattle.rules.specs.Workflow.{Workflow}
+use mathlib.Core.List.{List}
+use Rattle.rules.specs.Reading.{Deadline, no-deadline, Share, no-share, thousandths, Request}
+use Rattle.rules.specs.Workflow.{Workflow, workflow}
 use Rattle.rules.specs.Ranks.{cheapest-total}
 use Rattle.rules.specs.Rows.{spent}
-use Rattle.rules.specs.Method.{Method, HEFT}
+use Rattle.rules.specs.Method.{Method, HEFT, Name, by-HBCS, by-cheapest, by-HEFT}
 use Rattle.rules.specs.Placing.{place}
 
 -- The same workflow with this budget and this deadline in force.
@@ -43,6 +44,12 @@ unfoldable pub budget-of : Share → Workflow → ℕ
 budget-of no-share W = W .budget
 budget-of (thousandths k) W = budget-between k (cheapest-total W) (cost-alone HEFT W)
 
--- What HBCS is held to.
-unfoldable pub bound : Share → Workflow → Workflow
-bound share W = in-force (budget-of share W) (W .deadline) W
+-- What is in force by the method that is asked for: the budget and the deadline for HBCS, neither for the two others.
+unfoldable pub held-to : Name → Share → Workflow → Workflow
+held-to by-HBCS share W = in-force (budget-of share W) (W .deadline) W
+held-to by-cheapest share W = unbound W
+held-to by-HEFT share W = unbound W
+
+-- A good request's workflow with what is in force.
+abbrev pub workflow-for : Name → List ℕ → Request → Workflow
+workflow-for M s r = held-to M (r .share) (workflow s r)

@@ -21,14 +21,14 @@ use Rattle.rules.specs.Labels.{part-of, label-place, label-part, label-i
 use Rattle.rules.specs.Cycle.{linked, leads-through, back-to-itself, cyclic, lowest-in-cycle}
 use Rattle.rules.specs.Ranks.{cost, lowest-cost, cheapest-total, rank-by, rank-within, R, waits, may-be-next, next-task}
 use Rattle.rules.specs.Start.{arrival, arrived, ready, overlap, free, latest-end, if-free, least-end, start-on}
-use Rattle.rules.specs.Method.{best, may-be-taken, latest-finish, B, F, or-one, score, preferred, HBCS, Cheapest, HEFT, Name, method}
+use Rattle.rules.specs.Method.{best, may-be-taken, latest-finish, B, F, or-one, score, preferred, HBCS, Cheapest, HEFT, Name, by-HBCS, method}
 use Rattle.rules.specs.Rows.{Row, row-of, is-placed, busy, spent, length-of}
 use Rattle.rules.specs.Placing.{ready-for, start-of, finish-of, RB, RCB, question, row-on, place-task, place-next, place}
-use Rattle.rules.specs.Budget.{in-force, unbound, cost-alone, budget-between, budget-of, bound}
-use Rattle.rules.specs.Answer.{Answer, refused, refuse, too-late, placed-outcome, checked, outcome-of, outcome-by, outcome-alone, outcome-named, outcome-read}
-use Rattle.rules.specs.Answer.{outcome-asked, outcome, answer-of, answer-asked, answer, written, rows-asked, rows-after}
+use Rattle.rules.specs.Budget.{in-force, unbound, cost-alone, budget-between, budget-of, held-to}
+use Rattle.rules.specs.Answer.{Answer, refused, refuse, too-late, placed-outcome, checked, later-checks, outcome-of, outcome-by, outcome-read}
+use Rattle.rules.specs.Answer.{outcome-asked, answer-of, answer-asked, answer, written, rows-asked, rows-after}
 use Rattle.rules.specs.Multiplied.{multiplied-deadline, multiplied-interval, multiplied}
-use Rattle.rules.specs.Text.{bytes, digits, decimal, line, first-line, row-line, lines, row-lines, text-asked, text, program-asked, program}
+use Rattle.rules.specs.Text.{bytes, digits, decimal, line, first-line, row-line, lines, row-lines, text-asked, program-asked}
 use Rattle.rules.specs.Range.{range-of, range, range-line, range-text, range-program}
 
 -- A number below 65,536 in two bytes, and in four.
@@ -114,10 +114,10 @@ unfolding
     arrival arrived ready overlap free latest-end if-free least-end start-on
     best may-be-taken latest-finish B F or-one score preferred HBCS Cheapest HEFT method
     row-of is-placed busy ready-for start-of finish-of spent length-of RB RCB question row-on place-task place-next place
-    in-force unbound cost-alone budget-between budget-of bound
-    refuse too-late placed-outcome checked outcome-of outcome-by outcome-alone outcome-named outcome-read outcome-asked outcome
-    answer-of answer-asked answer written rows-asked rows-after
-    bytes digits decimal line first-line row-line lines row-lines text-asked text program-asked program
+    in-force unbound cost-alone budget-between budget-of held-to
+    refuse too-late placed-outcome checked later-checks outcome-of outcome-by outcome-read outcome-asked
+    answer-of answer-asked written rows-asked
+    bytes digits decimal line first-line row-line lines row-lines text-asked program-asked
     range-of range range-line range-text range-program
 given c = record { answer = answer (c .input) (length (c .lent)); rows = rows-after (c .input) (c .lent) }
 
@@ -137,7 +137,7 @@ All-given-by M (c ∷ cases) = (given-by M c ≡ c .due) × All-given-by M cases
 
 -- The answer for a request whose workflow is multiplied after reading, with 64 rows lent; a refusal in reading stays.
 unfoldable pub multiplied-in : ℕ → ℕ → List ℕ → Read Request → Answer
-multiplied-in a b s (read next r) = answer-of (outcome-by HBCS (bound (r .share) (multiplied a b (workflow s r))) 64)
+multiplied-in a b s (read next r) = answer-of (outcome-by by-HBCS (held-to by-HBCS (r .share) (multiplied a b (workflow s r))) 64)
 multiplied-in a b s (stopped number place) = refused number place
 
 unfoldable pub answer-multiplied : ℕ → ℕ → List ℕ → Answer

@@ -7,7 +7,7 @@ use lib.ListN.{take, drop}
 use Rattle.rules.specs.Fields.{P, Q}
 use Rattle.rules.specs.Labels.{empty-start, label-lookup, label}
 use Rattle.rules.specs.Answer.{planned, refused, answer}
-use Rattle.rules.specs.Buffers.{Buffers, rows-lent, row-in, column-after, buffers-written, buffers-after}
+use Rattle.rules.specs.Buffers.{Buffers, rows-lent, row-in, column-after, buffers-written, buffers-asked, buffers-after}
 use Rattle.rules.specs.Text.{bytes}
 use Rattle.rules.specs.Cases.{H-record, D-record, P-record, Q-record, M-record, T-record, W-record, E-record, row, Case, refused-case, planned-case}
 use Rattle.rules.specs.Cases.{given, All-given, answer-multiplied, kinds-in, kinds}
@@ -330,5 +330,5 @@ pub in-buffers :
     × (row-in (buffers-after (two-tasks []) (lent-buffers (88 ∷ 89 ∷ []))) 1 ≡ row 0 3 6 3)
     × (buffers-after (two-tasks []) (lent-buffers (88 ∷ [])) ≡ lent-buffers (88 ∷ []))
     × (answer (two-tasks []) (rows-lent (lent-buffers (88 ∷ []))) ≡ refused 7 2)
-unfolding given two-tasks rows-lent row-in column-after buffers-written buffers-after
+unfolding given two-tasks rows-lent row-in column-after buffers-written buffers-asked
 in-buffers = (refl, refl, refl, refl)

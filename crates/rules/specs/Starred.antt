@@ -70,7 +70,7 @@ sampled = (refl, refl)
 pub printed :
     (program (S 28) ≡ bytes "plan 3 14 26 2\nprep 1 0 4 12\nleft 0 6 14 8\nright 1 4 6 6\n")
     × (program (S 23) ≡ bytes "no 9 24\n")
-unfolding given sample S program
+unfolding given sample S
 printed = (refl, refl)
 
 -- A request, and one with its times by 3 and its prices by 2: the second's answer is the first's multiplied.

@@ -54,12 +54,12 @@ row-lines s (refusal number place) = []
 unfoldable pub text-asked : Name → List ℕ → List ℕ
 text-asked M s = first-line (answer-asked M s 64) ++ row-lines s (outcome-asked M s 64)
 
-unfoldable pub text : List ℕ → List ℕ
+abbrev pub text : List ℕ → List ℕ
 text s = text-asked by-HBCS s
 
 -- "and reads at most 16,384 bytes from standard input": what it writes.
 unfoldable pub program-asked : Name → List ℕ → List ℕ
 program-asked M input = text-asked M (take 16_384 input)
 
-unfoldable pub program : List ℕ → List ℕ
+abbrev pub program : List ℕ → List ℕ
 program input = program-asked by-HBCS input
