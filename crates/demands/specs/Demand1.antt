@@ -30,17 +30,20 @@ use Rattle.label.specs.Label.{Label, Listed}
 use Rattle.rules.specs.Fields.{byte}
 use Rattle.rules.specs.Records.{Read, read, stopped}
 use Rattle.rules.specs.Reading.{Request, read-request}
-use Rattle.rules.specs.Workflow.{Workflow, workflow, task-place}
+use Rattle.rules.specs.Workflow.{Workflow, task-place}
 use Rattle.rules.specs.Labels.{label-place, label-lookup, label}
 use Rattle.rules.specs.Rows.{Row}
-use Rattle.rules.specs.Answer.{Outcome, plan, refusal, outcome, refused, answer-of, answer, written, rows-after}
-use Rattle.rules.specs.Buffers.{Buffers, rows-lent, column-after, buffers-written, buffers-after}
-use Rattle.rules.specs.Text.{text, program}
+use Rattle.rules.specs.Method.{Name, by-HBCS, by-cheapest, by-HEFT}
+use Rattle.rules.specs.Budget.{workflow-for}
+use Rattle.rules.specs.Answer.{Outcome, plan, refusal, outcome-asked, refused, answer-of, answer-asked, written, rows-asked}
+use Rattle.rules.specs.Buffers.{Buffers, rows-lent, column-after, buffers-written, buffers-asked}
+use Rattle.rules.specs.Text.{text-asked, program-asked}
+use Rattle.rules.specs.Range.{range, range-text, range-program}
 use Rattle.good.specs.Ranges.{request-most}
 use Rattle.good.specs.ReadIsGood.{read-is-good}
 use Rattle.good.specs.RangeLaws.{good-length}
 use Rattle.good.specs.Labels.{good-label, label-begins}
-use Rattle.good.specs.Program.{outcome-first, answer-first, rows-after-first, label-lookup-first, label-first, program-is-text}
+use Rattle.good.specs.Program.{answer-asked-first, rows-asked-first, buffers-asked-first, program-asked-is-text, range-first, range-program-is-text, label-lookup-first, label-first}
 use Rattle.demands.specs.Demand1.Wanted.{task, Passes}
 use Rattle.demands.specs.Demand1.Reads.{Stops}
 use Rattle.demands.specs.Demand1.Stands.{PassesReading}
@@ -81,52 +84,56 @@ labels-are-given s {r} passes i below =
 pub no-stray-byte : (s : List ℕ) (i : ℕ) {b : ℕ} → List·Memᴰ b (label s i) → Listed b
 no-stray-byte s i = each-member Listed (label s i) (label-byte-listed s i)
 
--- "So a good request, one not refused with 1 to 6, has at most 9,053 bytes."
+-- "So a good request, one not refused with 1 to 6, has at most 9,056 bytes."
 pub good-request-length : (s : List ℕ) {r : Request} → PassesReading s r → length s ≤ request-most
 good-request-length s {r} passes = good-length s r (read-is-good s (read-iff-passes s r .1 passes .1))
 
--- "reads at most 16,384 bytes from standard input; by the size limit its answer is that of the whole input"
+-- "reads at most 16,384 bytes from standard input; by the size limit its answer is that of the whole input": by each method, and of the range.
 pub record FirstBytesDecide (s : List ℕ) : Type 0 where
-  pub answers : (lent : ℕ) → answer (take 16_384 s) lent ≡ answer s lent
-  pub rows : (lent : List Row) → rows-after (take 16_384 s) lent ≡ rows-after s lent
-  pub buffers : (lent : Buffers) → buffers-after (take 16_384 s) lent ≡ buffers-after s lent
+  pub answers : (M : Name) (lent : ℕ) → answer-asked M (take 16_384 s) lent ≡ answer-asked M s lent
+  pub rows : (M : Name) (lent : List Row) → rows-asked M (take 16_384 s) lent ≡ rows-asked M s lent
+  pub buffers : (M : Name) (lent : Buffers) → buffers-asked M (take 16_384 s) lent ≡ buffers-asked M s lent
   pub labels : (i : ℕ) → label (take 16_384 s) i ≡ label s i
   pub parts : (i : ℕ) → label-lookup (take 16_384 s) i ≡ label-lookup s i
-  pub texts : program s ≡ text s
+  pub texts : (M : Name) → program-asked M s ≡ text-asked M s
+  pub ranges : range (take 16_384 s) ≡ range s
+  pub range-texts : range-program s ≡ range-text s
 
 pub first-bytes-decide : (s : List ℕ) → FirstBytesDecide s
-unfolding buffers-after
 first-bytes-decide s =
     record {
-      answers = answer-first s;
-      rows = rows-after-first s;
-      buffers = λ lent. ap (λ o. buffers-written o lent) (outcome-first s (rows-lent lent));
+      answers = λ M. answer-asked-first M s;
+      rows = λ M. rows-asked-first M s;
+      buffers = λ M. buffers-asked-first M s;
       labels = label-first s;
       parts = label-lookup-first s;
-      texts = program-is-text s;
+      texts = λ M. program-asked-is-text M s;
+      ranges = range-first s;
+      range-texts = range-program-is-text s;
     }
 
--- What an input and so many rows lent get: the refusal of the first fault, or, for a request that passes reading, what is due to its workflow.
-pub data Answered (s : List ℕ) (lent : ℕ) : Outcome → Type 0 where
-  refused-in-reading : {number place : ℕ} → Stops s number place → Answered s lent (refusal number place)
-  passed-reading : {r : Request} {o : Outcome} → PassesReading s r → Due (workflow s r) lent o → Answered s lent o
+-- What an input and so many rows lent get, by the method that is asked for: the refusal of the first fault, or, for a request that passes reading, what is
+-- due to its workflow with what is in force.
+pub data Answered (M : Name) (s : List ℕ) (lent : ℕ) : Outcome → Type 0 where
+  refused-in-reading : {number place : ℕ} → Stops s number place → Answered M s lent (refusal number place)
+  passed-reading : {r : Request} {o : Outcome} → PassesReading s r → Due (workflow-for M s r) lent M o → Answered M s lent o
 
 -- Every input is answered,
-pub every-input-is-answered : (s : List ℕ) (lent : ℕ) → Answered s lent (outcome s lent)
-every-input-is-answered s lent = go (read-request s) refl
+pub every-input-is-answered : (M : Name) (s : List ℕ) (lent : ℕ) → Answered M s lent (outcome-asked M s lent)
+every-input-is-answered M s lent = go (read-request s) refl
   where
-    go : (x : Read Request) → read-request s ≡ x → Answered s lent (outcome s lent)
-    go (read end r) e = passed-reading (read-iff-passes s r .0 (end, e)) (requests-get-their-due s e lent)
-    go (stopped number place) e = rw (outcome-of-stopped s e lent) (refused-in-reading (reading-stops s e))
+    go : (x : Read Request) → read-request s ≡ x → Answered M s lent (outcome-asked M s lent)
+    go (read end r) e = passed-reading (read-iff-passes s r .0 (end, e)) (requests-get-their-due M s e lent)
+    go (stopped number place) e = rw (outcome-of-stopped M s e lent) (refused-in-reading (reading-stops s e))
 
-answered-is-outcome : {s : List ℕ} {lent : ℕ} {o : Outcome} → Answered s lent o → o ≡ outcome s lent
-answered-is-outcome {s} {lent} (refused-in-reading stop) = sym (outcome-of-stopped s (fault-stops s (stop .comes) (stop .fault)) lent)
-answered-is-outcome {s} {lent} (passed-reading {r = r} passes due) =
+answered-is-outcome : {M : Name} {s : List ℕ} {lent : ℕ} {o : Outcome} → Answered M s lent o → o ≡ outcome-asked M s lent
+answered-is-outcome {M} {s} {lent} (refused-in-reading stop) = sym (outcome-of-stopped M s (fault-stops s (stop .comes) (stop .fault)) lent)
+answered-is-outcome {M} {s} {lent} (passed-reading {r = r} passes due) =
     let (end, e) = read-iff-passes s r .1 passes in
-    due-is-outcome (workflow s r) (good-workflow s e) lent due ∙ sym (outcome-of-good s e lent)
+    due-is-outcome (workflow-for M s r) (good-workflow M s e) lent due ∙ sym (outcome-of-good M s e lent)
 
 -- and one way: two outcomes so described are one.
-pub answered-settled : {s : List ℕ} {lent : ℕ} {o o′ : Outcome} → Answered s lent o → Answered s lent o′ → o ≡ o′
+pub answered-settled : {M : Name} {s : List ℕ} {lent : ℕ} {o o′ : Outcome} → Answered M s lent o → Answered M s lent o′ → o ≡ o′
 answered-settled one other = answered-is-outcome one ∙ sym (answered-is-outcome other)
 
 refused-outcome : (o : Outcome) {number place : ℕ} → answer-of o ≡ refused number place → o ≡ refusal number place
@@ -135,60 +142,68 @@ refused-outcome (plan W rows) e = let z : _≡_ {A = ℕ} 0 1 = cc in absurd (om
 refused-outcome (refusal number′ place′) {number} {place} e = cc
 
 -- A refusal is given exactly where it is described so: "number, place".
-pub refused-iff-answered : (s : List ℕ) (lent number place : ℕ) → (answer s lent ≡ refused number place) ↔ Answered s lent (refusal number place)
-unfolding answer
-refused-iff-answered s lent number place = (
-  λ e. rw (refused-outcome (outcome s lent) e) at (every-input-is-answered s lent),
+pub refused-iff-answered :
+    (M : Name) (s : List ℕ) (lent number place : ℕ) → (answer-asked M s lent ≡ refused number place) ↔ Answered M s lent (refusal number place)
+unfolding answer-asked
+refused-iff-answered M s lent number place = (
+  λ e. rw (refused-outcome (outcome-asked M s lent) e) at (every-input-is-answered M s lent),
   λ a. unfold answer-of in ap answer-of (sym (answered-is-outcome a)),
 )
 
 -- Refusals from 7 on come only for requests that pass reading, where they are due.
 pub later-refusals-are-due :
-    (s : List ℕ) (lent : ℕ) {number place : ℕ} → answer s lent ≡ refused number place → 7 ≤ number
-    → (r : Request) × PassesReading s r × Due (workflow s r) lent (refusal number place)
-unfolding answer
-later-refusals-are-due s lent {number} {place} e later = go (read-request s) refl
+    (M : Name) (s : List ℕ) (lent : ℕ) {number place : ℕ} → answer-asked M s lent ≡ refused number place → 7 ≤ number
+    → (r : Request) × PassesReading s r × Due (workflow-for M s r) lent M (refusal number place)
+unfolding answer-asked
+later-refusals-are-due M s lent {number} {place} e later = go (read-request s) refl
   where
-    given : outcome s lent ≡ refusal number place
-    given = refused-outcome (outcome s lent) e
+    given : outcome-asked M s lent ≡ refusal number place
+    given = refused-outcome (outcome-asked M s lent) e
 
     go : (x : Read Request) → read-request s ≡ x
-        → (r : Request) × PassesReading s r × Due (workflow s r) lent (refusal number place)
-    go (read end r) read-so = (r, read-iff-passes s r .0 (end, read-so), rw given at (requests-get-their-due s read-so lent))
+        → (r : Request) × PassesReading s r × Due (workflow-for M s r) lent M (refusal number place)
+    go (read end r) read-so = (r, read-iff-passes s r .0 (end, read-so), rw given at (requests-get-their-due M s read-so lent))
     go (stopped number′ place′) stopped-so =
         let early = stopped-with-1-to-6 (reading-stops s stopped-so) in
-        let same : number ≡ number′ = cc (given, outcome-of-stopped s stopped-so lent) in
+        let same : number ≡ number′ = cc (given, outcome-of-stopped M s stopped-so lent) in
         absurd (omega arith)
 
--- The numbers in the table of refusals.
-abbrev pub OfTheTable : ℕ → Type 0
-OfTheTable number = ((1 ≤ number) × (number ≤ 9)) ⊎ (number ≡ 11)
+-- The numbers in the table of refusals; "asked for alone, [..] refusals 1 to 8 only".
+abbrev pub OfTheTable : Name → ℕ → Type 0
+OfTheTable by-HBCS number = ((1 ≤ number) × (number ≤ 9)) ⊎ (number ≡ 11)
+OfTheTable by-cheapest number = (1 ≤ number) × (number ≤ 8)
+OfTheTable by-HEFT number = (1 ≤ number) × (number ≤ 8)
 
-pub refusal-numbers : (s : List ℕ) (lent : ℕ) {number place : ℕ} → answer s lent ≡ refused number place → OfTheTable number
-refusal-numbers s lent {number} {place} e = go (refused-iff-answered s lent number place .0 e) refl
+pub refusal-numbers : (M : Name) (s : List ℕ) (lent : ℕ) {number place : ℕ} → answer-asked M s lent ≡ refused number place → OfTheTable M number
+refusal-numbers M s lent {number} {place} e = go (refused-iff-answered M s lent number place .0 e) refl
   where
-    of-due : {W : Workflow} {o : Outcome} → Due W lent o → o ≡ refusal number place → OfTheTable number
-    of-due (due.seven few) is = let same : 7 ≡ number = cc in inl (omega arith, omega arith)
-    of-due (due.eight enough lowest) is = let same : 8 ≡ number = cc in inl (omega arith, omega arith)
-    of-due (due.nine placeable dear) is = let same : 9 ≡ number = cc in inl (omega arith, omega arith)
-    of-due (due.eleven placeable p late) is = let same : 11 ≡ number = cc in inr (sym same)
-    of-due (due.planned placeable p in-time) is = let z : _≡_ {A = ℕ} 0 1 = cc in absurd (omega arith)
+    up-to-eight : (N : Name) → 1 ≤ number → number ≤ 8 → OfTheTable N number
+    up-to-eight by-HBCS low high = inl (low, omega arith)
+    up-to-eight by-cheapest low high = (low, high)
+    up-to-eight by-HEFT low high = (low, high)
 
-    go : {o : Outcome} → Answered s lent o → o ≡ refusal number place → OfTheTable number
+    of-due : {W : Workflow} {N : Name} {o : Outcome} → Due W lent N o → o ≡ refusal number place → OfTheTable N number
+    of-due {N = N} (due.seven few) is = let same : 7 ≡ number = cc in up-to-eight N (omega arith) (omega arith)
+    of-due {N = N} (due.eight enough lowest) is = let same : 8 ≡ number = cc in up-to-eight N (omega arith) (omega arith)
+    of-due (due.nine placeable dear) is = let same : 9 ≡ number = cc in inl (omega arith, omega arith)
+    of-due (due.eleven placeable p within late) is = let same : 11 ≡ number = cc in inr (sym same)
+    of-due (due.planned placeable p keeps) is = let z : _≡_ {A = ℕ} 0 1 = cc in absurd (omega arith)
+
+    go : {o : Outcome} → Answered M s lent o → o ≡ refusal number place → OfTheTable M number
     go (refused-in-reading {number = n} stop) is =
         let early = stopped-with-1-to-6 stop in
         let same : n ≡ number = cc in
-        inl (omega arith, omega arith)
+        up-to-eight M (omega arith) (omega arith)
     go (passed-reading passes its-due) is = of-due its-due is
 
 -- "A refusal changes no row."
 pub refusal-changes-no-row :
-    (s : List ℕ) (rows : List Row) {number place : ℕ} → answer s (length rows) ≡ refused number place → rows-after s rows ≡ rows
-unfolding answer rows-after written
-refusal-changes-no-row s rows e = rw (refused-outcome (outcome s (length rows)) e)
+    (M : Name) (s : List ℕ) (rows : List Row) {number place : ℕ} → answer-asked M s (length rows) ≡ refused number place → rows-asked M s rows ≡ rows
+unfolding answer-asked rows-asked written
+refusal-changes-no-row M s rows e = rw (refused-outcome (outcome-asked M s (length rows)) e)
 
 -- Nor one of four buffers, whatever their lengths.
 pub refusal-changes-no-buffer :
-    (s : List ℕ) (lent : Buffers) {number place : ℕ} → answer s (rows-lent lent) ≡ refused number place → buffers-after s lent ≡ lent
-unfolding answer buffers-after buffers-written column-after
-refusal-changes-no-buffer s lent e = rw (refused-outcome (outcome s (rows-lent lent)) e)
+    (M : Name) (s : List ℕ) (lent : Buffers) {number place : ℕ} → answer-asked M s (rows-lent lent) ≡ refused number place → buffers-asked M s lent ≡ lent
+unfolding answer-asked buffers-asked buffers-written column-after
+refusal-changes-no-buffer M s lent e = rw (refused-outcome (outcome-asked M s (rows-lent lent)) e)

@@ -7,6 +7,7 @@ pub mod HBCSMultiplied
 pub mod CostsMultiplied
 pub mod RowsMultiplied
 pub mod PlacingMultiplied
+pub mod BudgetMultiplied
 pub mod AnswerMultiplied
 pub mod SampleMultiplied
 pub mod StandIns

@@ -12,6 +12,8 @@ use Rattle.rules.specs.Reading.{Request}
 use Rattle.rules.specs.Workflow.{Workflow, processor-kind, processor-minimum, processor-place, read-in, workflow}
 use Rattle.rules.specs.Ranks.{cost}
 use Rattle.rules.specs.Rows.{Row}
+use Rattle.rules.specs.Method.{Name, by-HBCS, by-cheapest, by-HEFT}
+use Rattle.rules.specs.Budget.{in-force, unbound, held-to, workflow-for}
 use Rattle.demands.specs.Demand2.{PlanGot}
 use Rattle.demands.specs.Demand2.Sound.{RowTrue}
 
@@ -34,6 +36,13 @@ billed s r i row holds = go (eqb (byte s (processor-place s r (row .processor)))
     go true is = the-larger (rw is) (holds .cost ∙ rw (lt-ltb (row .processor) (r .processors) (holds .processor), is))
     go false is = its-minutes (rw is) (holds .cost ∙ rw (lt-ltb (row .processor) (r .processors) (holds .processor), is) (omega arith))
 
+true-held : (M : Name) (s : List ℕ) (r : Request) (i : ℕ) (row : Row) → RowTrue (workflow-for M s r) i row → RowTrue (workflow s r) i row
+unfolding cost held-to unbound in-force
+true-held by-HBCS s r i row holds = record { task = holds .task; processor = holds .processor; finish = holds .finish; cost = holds .cost }
+true-held by-cheapest s r i row holds = record { task = holds .task; processor = holds .processor; finish = holds .finish; cost = holds .cost }
+true-held by-HEFT s r i row holds = record { task = holds .task; processor = holds .processor; finish = holds .finish; cost = holds .cost }
+
 pub rows-billed :
-    {s : List ℕ} {lent n l c left : ℕ} {row : ℕ → Row} (got : PlanGot s lent n l c left row) (i : ℕ) → i < n → Billed s (got .request) i (row i)
-rows-billed got i below = billed _ _ i _ (got .held .rows-true i below)
+    {M : Name} {s : List ℕ} {lent n l c left : ℕ} {row : ℕ → Row} (got : PlanGot M s lent n l c left row) (i : ℕ) → i < n
+    → Billed s (got .request) i (row i)
+rows-billed {M} got i below = billed _ _ i _ (true-held M _ _ i _ (got .held .rows-true i below))

@@ -9,7 +9,7 @@ use Rattle.rules.specs.Method.{Question, best, may-be-taken, score, preferred, 
 use Rattle.laws.specs.Folds.{lowest-at-most, lowest-attained}
 use Rattle.laws.specs.Orders.{lower-false, higher-false}
 use Rattle.laws.specs.First.{first-passes}
-use Rattle.laws.specs.Method.{HBCS-takes-processor}
+use Rattle.laws.specs.Method.{HBCS-chooses-among}
 use Rattle.laws.specs.Strict.{Strict, tie-strict, lower-strict, higher-strict, first-among-unbeaten, first-among-lowest}
 use Rattle.demands.specs.Ground.Best.{MayBeTaken, best-below, may-of-test, test-of-may}
 use Rattle.demands.specs.Ground.MethodLaws.{ChoosesProcessors, LeavesEnough, CheapestLeavesEnough, KeepsWithin}
@@ -67,7 +67,7 @@ module _ (q : Question) where
     pub HBCS-wins : Wins q (HBCS q)
     HBCS-wins =
         record {
-          processor = HBCS-takes-processor q some;
+          processor = HBCS-chooses-among .takes-processor q some;
           may = HBCS-may-be-taken;
           highest = λ i below passes. unbeaten i below passes .0;
           then-earliest = λ i below passes e. lower-false (q .finish) tie i (HBCS q) .0 (unbeaten i below passes .1 (sym e)) .0;
@@ -75,10 +75,10 @@ module _ (q : Question) where
         }
 
     HBCS-leaves-enough : LeavesEnough q (HBCS q)
-    HBCS-leaves-enough = may-of-test q (HBCS q) (HBCS-takes-processor q some) HBCS-may-be-taken .leaves-enough
+    HBCS-leaves-enough = may-of-test q (HBCS q) (HBCS-chooses-among .takes-processor q some) HBCS-may-be-taken .leaves-enough
 
 pub HBCS-chooses-processors : ChoosesProcessors HBCS
-HBCS-chooses-processors = HBCS-takes-processor
+HBCS-chooses-processors = HBCS-chooses-among .takes-processor
 
 pub HBCS-keeps-within : KeepsWithin HBCS
 HBCS-keeps-within = HBCS-leaves-enough

@@ -12,6 +12,7 @@ use Rattle.rules.specs.Workflow.{Workflow}
 use Rattle.rules.specs.Cycle.{Leads}
 use Rattle.rules.specs.Ranks.{R, may-be-next}
 use Rattle.rules.specs.Rows.{Placed, is-placed}
+use Rattle.rules.specs.Method.{Name}
 use Rattle.laws.specs.Tests.{false-unless-true}
 use Rattle.laws.specs.NextTask.{MayBeNext, may-be-next-told, some-may-be-next, held-by-one}
 use Rattle.demands.specs.Demand2.Lookup.{none-placed, new-placed, old-placed}
@@ -53,8 +54,8 @@ record PlacedAt (W : Workflow) (rows : List Placed) (i : ℕ) : Type 0 where
   it-after : (k : ℕ) → PlacedBefore rows k i → is-placed before k ≡ true
   after-it : (k : ℕ) → PlacedBefore rows i k → is-placed before k ≡ false
 
-module _ (W : Workflow) where
-  placed-at : (rows : List Placed) → EachStep (AsTheMethod W) rows → (i : ℕ) → is-placed rows i ≡ true → PlacedAt W rows i
+module _ (M : Name) (W : Workflow) where
+  placed-at : (rows : List Placed) → EachStep (AsTheMethod M W) rows → (i : ℕ) → is-placed rows i ≡ true → PlacedAt W rows i
   placed-at [] steps i placed = absurd (none-placed i placed)
   placed-at (p ∷ before) (step, steps) i placed =
       ⊎-elim (λ is. subst (PlacedAt W (p ∷ before)) is newest) (λ h. older h (placed-at before steps i h)) (placed-cases p before i placed)
@@ -93,7 +94,7 @@ module _ (W : Workflow) where
                 (there .after-it k) b;
           }
 
-  only-tasks : (rows : List Placed) → EachStep (AsTheMethod W) rows → (i : ℕ) → is-placed rows i ≡ true → i < W .tasks
+  only-tasks : (rows : List Placed) → EachStep (AsTheMethod M W) rows → (i : ℕ) → is-placed rows i ≡ true → i < W .tasks
   only-tasks rows steps i placed = placed-at rows steps i placed .task
 
 -- "The next task placed is the highest rank among unplaced tasks whose predecessors are all placed; ties to lower number." "So tasks are placed by falling R,
@@ -108,13 +109,13 @@ pub record PlacedInOrder (W : Workflow) (rows : List Placed) : Type 0 where
       → (i < k) ⊎ ((e : ℕ) × (e < W .edges) × (W .to e ≡ k) × (PlacedBefore rows (W .from e) i → ⊥))
   pub predecessors-first : (e : ℕ) → e < W .edges → PlacedBefore rows (W .from e) (W .to e)
 
--- A plan's tasks are placed so.
+-- A plan's tasks are placed so, by each of the three methods.
 pub plan-in-order :
-    (W : Workflow) → GoodWorkflow W → ((i : ℕ) → Leads W i i → ⊥) → {rows : List Placed} → MethodsPlan W rows → PlacedInOrder W rows
-plan-in-order W good acyclic {rows} plan =
+    {M : Name} (W : Workflow) → GoodWorkflow W → ((i : ℕ) → Leads W i i → ⊥) → {rows : List Placed} → MethodsPlan M W rows → PlacedInOrder W rows
+plan-in-order {M} W good acyclic {rows} plan =
     record {
       each-placed = plan .all-placed;
-      only-tasks = only-tasks W rows (plan .steps);
+      only-tasks = only-tasks M W rows (plan .steps);
       none-twice = none-twice;
       falling = falling;
       ties = λ i k b same. go i k b same (may-be-next W (is-placed (first i k b .before)) k) refl;
@@ -124,7 +125,7 @@ plan-in-order W good acyclic {rows} plan =
     }
   where
     at-its-step : (i : ℕ) → is-placed rows i ≡ true → PlacedAt W rows i
-    at-its-step = placed-at W rows (plan .steps)
+    at-its-step = placed-at M W rows (plan .steps)
 
     first : (i k : ℕ) → PlacedBefore rows i k → PlacedAt W rows i
     first i k b = at-its-step i (both-placed rows i k b .0)

@@ -1,7 +1,7 @@
 -- No task of a plan runs while its machine is down, by the windows that stand in the request: its row has no minute in common with a window of its
 -- processor. Stated of the rows that the caller holds, in lent rows or in four buffers.
 use Prim.Native.Nat.{ℕ, zero, suc, _≤_, _<_}
-use mathlib.Core.Path.{_≡_, ap, subst}
+use mathlib.Core.Path.{_≡_, refl, sym, ap, subst}
 use mathlib.Core.Bool.{Bool, true, false, cond}
 use mathlib.Core.List.{List, _∷_, List·Memᴰ, List·Memᴰ·head, List·Memᴰ·tail}
 use mathlib.Core.Logic.{⊎-elim}
@@ -13,6 +13,8 @@ use Rattle.rules.specs.Fields.{M-processor, M-begin, M-end}
 use Rattle.rules.specs.Reading.{Request}
 use Rattle.rules.specs.Workflow.{window-place, busy-with, window-of, windows-on, workflow}
 use Rattle.rules.specs.Rows.{Row, taken-up}
+use Rattle.rules.specs.Method.{Name, by-HBCS, by-cheapest, by-HEFT}
+use Rattle.rules.specs.Budget.{in-force, unbound, held-to, workflow-for}
 use Rattle.laws.specs.Free.{common-overlaps}
 use Rattle.demands.specs.Demand2.{PlanGot}
 
@@ -36,15 +38,23 @@ window-listed s r (suc k) e j l on =
     later true m = List·Memᴰ·tail m
     later false m = m
 
+-- Whatever is in force, they are what it is busy with at first.
+windows-held : (M : Name) (s : List ℕ) (r : Request) → workflow-for M s r .busy-at-first ≡ windows-on s r (r .windows)
+unfolding workflow held-to unbound in-force
+windows-held by-HBCS s r = refl
+windows-held by-cheapest s r = refl
+windows-held by-HEFT s r = refl
+
 -- "`M` is a maintenance window: the processor is down from begin on, up to end." A minute t of a row is none of them.
 pub no-row-in-a-window :
-    {s : List ℕ} {lent n l c left : ℕ} {row : ℕ → Row} (got : PlanGot s lent n l c left row) (i e : ℕ) → i < n → e < got .request .windows
+    {N : Name} {s : List ℕ} {lent n l c left : ℕ} {row : ℕ → Row} (got : PlanGot N s lent n l c left row) (i e : ℕ) → i < n → e < got .request .windows
     → let window = window-place (got .request) e in
     M-processor s window ≡ row i .processor
     → (t : ℕ) → row i .start ≤ t → t < row i .finish → M-begin s window ≤ t → t < M-end s window → ⊥
-unfolding workflow window-of
-no-row-in-a-window {s} {row = row} got i e task below on t started unfinished down until =
+unfolding window-of
+no-row-in-a-window {N} {s} {row = row} got i e task below on t started unfinished down until =
     let r = got .request in
     let window = window-of s (window-place r e) in
-    got .held .while-up i task window (window-listed s r (r .windows) e (row i .processor) below on)
+    got .held .while-up i task window
+    (subst (λ busy. List·Memᴰ window (busy (row i .processor))) (sym (windows-held N s r)) (window-listed s r (r .windows) e (row i .processor) below on))
     (common-overlaps (taken-up (row i)) window (record { in-one = (started, unfinished); in-other = (down, until) }))

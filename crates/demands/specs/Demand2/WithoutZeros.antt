@@ -13,11 +13,13 @@ use Rattle.rules.specs.Reading.{Request, read-request}
 use Rattle.rules.specs.Workflow.{Workflow, workflow}
 use Rattle.rules.specs.Cycle.{Leads, cyclic}
 use Rattle.rules.specs.Ranks.{R, next-task}
-use Rattle.rules.specs.Method.{Method, HBCS}
+use Rattle.rules.specs.Method.{Method, Name, by-HBCS, by-cheapest, by-HEFT, method}
 use Rattle.rules.specs.Rows.{Row, Placed, is-placed}
 use Rattle.rules.specs.Placing.{place-task, place-next, place}
-use Rattle.rules.specs.Answer.{Outcome, refusal, refuse, outcome-of, outcome-by, outcome-read, outcome, answer-of, answer, written, rows-after}
-use Rattle.rules.specs.Buffers.{Buffers, rows-lent, buffers-written, buffers-after}
+use Rattle.rules.specs.Budget.{in-force, unbound, held-to, workflow-for}
+use Rattle.rules.specs.Answer.{Outcome, refusal, refuse, checked, outcome-of, outcome-by, outcome-read, outcome-asked, answer-of, answer-asked, written}
+use Rattle.rules.specs.Answer.{rows-asked, rows-after}
+use Rattle.rules.specs.Buffers.{Buffers, rows-lent, buffers-written, buffers-asked}
 use Rattle.rules.specs.Cases.{given, four-rows, row}
 use Rattle.rules.specs.Corners.{alone, chain, marker-before}
 use Rattle.laws.specs.Tests.{true-unless-false}
@@ -26,9 +28,9 @@ use Rattle.laws.specs.First.{first-below, first-passes}
 use Rattle.laws.specs.Unmarked.{count-unmarked, some-unmarked}
 use Rattle.laws.specs.NextTask.{MayBeNext, next-task-may}
 use Rattle.laws.specs.Cycles.{none-leads-back}
+use Rattle.laws.specs.Method.{method-chooses-among}
 use Rattle.demands.specs.Ground.GoodWorkflow.{GoodWorkflow, good-workflow}
 use Rattle.demands.specs.Ground.MethodLaws.{ChoosesProcessors}
-use Rattle.demands.specs.Demand2.HBCSChoice.{HBCS-chooses-processors}
 use Rattle.demands.specs.Demand2.Order.{Highest, first-highest, highest-settled, next-task-highest, R-at-least}
 use Rattle.demands.specs.Demand2.Built.{built-count, place-built}
 
@@ -42,12 +44,12 @@ place-by-rank M W zero = []
 place-by-rank M W (suc k) = let so-far = place-by-rank M W k in place-task M W so-far (next-by-rank W (is-placed so-far))
 
 -- What is decided by that order, for any input.
-unfoldable pub outcome-read-by-rank : List ℕ → Read Request → ℕ → Outcome
-outcome-read-by-rank s (read next r) lent = outcome-of (workflow s r) lent (place-by-rank HBCS (workflow s r) (r .tasks))
-outcome-read-by-rank s (stopped number place) lent = refusal number place
+unfoldable pub outcome-read-by-rank : Name → List ℕ → Read Request → ℕ → Outcome
+outcome-read-by-rank M s (read next r) lent = let W = workflow-for M s r in outcome-of M W lent (place-by-rank (method M) W (W .tasks))
+outcome-read-by-rank M s (stopped number place) lent = refusal number place
 
-unfoldable pub outcome-by-rank : List ℕ → ℕ → Outcome
-outcome-by-rank s lent = outcome-read-by-rank s (read-request s) lent
+unfoldable pub outcome-by-rank : Name → List ℕ → ℕ → Outcome
+outcome-by-rank M s lent = outcome-read-by-rank M s (read-request s) lent
 
 -- Every task takes a minute or more on every processor.
 abbrev pub NoZeros : Workflow → Type 0
@@ -102,45 +104,52 @@ module _ (W : Workflow) (good : GoodWorkflow W) (acyclic : (i : ℕ) → Leads W
       ∙ ap (λ rows. place-task M W rows (next-by-rank W (is-placed rows))) (place-as-by-rank M chooses k (omega arith))
 
 -- With a cycle it is refused before any task is placed.
-outcome-as-by-rank : (W : Workflow) → GoodWorkflow W → NoZeros W → (lent : ℕ) → outcome-by HBCS W lent ≡ outcome-of W lent (place-by-rank HBCS W (W .tasks))
+outcome-as-by-rank :
+    (M : Name) (W : Workflow) → GoodWorkflow W → NoZeros W → (lent : ℕ) → outcome-by M W lent ≡ outcome-of M W lent (place-by-rank (method M) W (W .tasks))
 unfolding outcome-by
-outcome-as-by-rank W good minutes lent = go (cyclic W) refl
+outcome-as-by-rank M W good minutes lent = go (cyclic W) refl
   where
-    go : (t : Bool) → cyclic W ≡ t → outcome-of W lent (place HBCS W (W .tasks)) ≡ outcome-of W lent (place-by-rank HBCS W (W .tasks))
-    go true cycle = unfold outcome-of refuse in rw cycle
+    go : (t : Bool) → cyclic W ≡ t → outcome-of M W lent (place (method M) W (W .tasks)) ≡ outcome-of M W lent (place-by-rank (method M) W (W .tasks))
+    go true cycle = unfold outcome-of checked refuse in rw cycle
     go false none =
-        ap (outcome-of W lent)
-        (place-as-by-rank W good (none-leads-back W (good .to) none) minutes HBCS HBCS-chooses-processors (W .tasks) (omega arith))
+        ap (outcome-of M W lent)
+        (place-as-by-rank W good (none-leads-back W (good .to) none) minutes (method M) (method-chooses-among M .takes-processor) (W .tasks) (omega arith))
 
 -- A request without zeros: if it passes reading, no minutes in it are 0.
 abbrev pub WithoutZeros : List ℕ → Type 0
 WithoutZeros s = (end : ℕ) (r : Request) → read-request s ≡ read end r → NoZeros (workflow s r)
 
-module _ (s : List ℕ) (minutes : WithoutZeros s) where
-  pub outcome-kept : (lent : ℕ) → outcome s lent ≡ outcome-by-rank s lent
-  unfolding outcome outcome-by-rank outcome-read outcome-read-by-rank workflow
+no-zeros-held : (M : Name) (s : List ℕ) (r : Request) → NoZeros (workflow s r) → NoZeros (workflow-for M s r)
+unfolding held-to unbound in-force
+no-zeros-held by-HBCS s r minutes = minutes
+no-zeros-held by-cheapest s r minutes = minutes
+no-zeros-held by-HEFT s r minutes = minutes
+
+module _ (M : Name) (s : List ℕ) (minutes : WithoutZeros s) where
+  pub outcome-kept : (lent : ℕ) → outcome-asked M s lent ≡ outcome-by-rank M s lent
+  unfolding outcome-asked outcome-by-rank outcome-read outcome-read-by-rank
   outcome-kept lent = go (read-request s) refl
     where
-      go : (x : Read Request) → read-request s ≡ x → outcome-read s x lent ≡ outcome-read-by-rank s x lent
-      go (read end r) is = outcome-as-by-rank (workflow s r) (good-workflow s is) (minutes end r is) lent
+      go : (x : Read Request) → read-request s ≡ x → outcome-read M s x lent ≡ outcome-read-by-rank M s x lent
+      go (read end r) is = outcome-as-by-rank M (workflow-for M s r) (good-workflow M s is) (no-zeros-held M s r (minutes end r is)) lent
       go (stopped number place) is = refl
 
   -- So the answer, the rows and the buffers.
-  pub answer-kept : (lent : ℕ) → answer s lent ≡ answer-of (outcome-by-rank s lent)
-  unfolding answer
+  pub answer-kept : (lent : ℕ) → answer-asked M s lent ≡ answer-of (outcome-by-rank M s lent)
+  unfolding answer-asked
   answer-kept lent = ap answer-of (outcome-kept lent)
 
-  pub rows-kept : (lent : List Row) → rows-after s lent ≡ written (outcome-by-rank s (length lent)) lent
-  unfolding rows-after
+  pub rows-kept : (lent : List Row) → rows-asked M s lent ≡ written (outcome-by-rank M s (length lent)) lent
+  unfolding rows-asked
   rows-kept lent = ap (λ o. written o lent) (outcome-kept (length lent))
 
-  pub buffers-kept : (lent : Buffers) → buffers-after s lent ≡ buffers-written (outcome-by-rank s (rows-lent lent)) lent
-  unfolding buffers-after
+  pub buffers-kept : (lent : Buffers) → buffers-asked M s lent ≡ buffers-written (outcome-by-rank M s (rows-lent lent)) lent
+  unfolding buffers-asked
   buffers-kept lent = ap (λ o. buffers-written o lent) (outcome-kept (rows-lent lent))
 
 -- With zeros it need not: marker 0 waits for marker 1, which waits for task 2. By document 01's order it would start at 0; its data is there at 5.
 pub marker-by-rank :
     (rows-after marker-before four-rows ≡ row 0 5 5 0 ∷ row 0 5 5 0 ∷ row 0 0 5 5 ∷ row 94 10 11 12 ∷ [])
-    × (written (outcome-by-rank marker-before 4) four-rows ≡ row 0 0 0 0 ∷ row 0 5 5 0 ∷ row 0 0 5 5 ∷ row 94 10 11 12 ∷ [])
+    × (written (outcome-by-rank by-HBCS marker-before 4) four-rows ≡ row 0 0 0 0 ∷ row 0 5 5 0 ∷ row 0 0 5 5 ∷ row 94 10 11 12 ∷ [])
 unfolding given alone chain marker-before next-by-rank place-by-rank outcome-read-by-rank outcome-by-rank
 marker-by-rank = (refl, refl)

@@ -1,4 +1,4 @@
--- What comes back for a multiplied workflow, by any method that keeps choices: the plan with its rows multiplied, or the same refusal.
+-- What comes back for a multiplied workflow, by each of the three methods: the plan with its rows multiplied, or the same refusal.
 use Prim.Native.Nat.{ℕ, _*_, _≤_, _<_}
 use mathlib.Core.Path.{_≡_, refl, sym, ap, _∙_, fun-ext}
 use mathlib.Core.Bool.{Bool, true, false}
@@ -12,16 +12,16 @@ use Rattle.rules.specs.Reading.{Deadline, no-deadline, by}
 use Rattle.rules.specs.Workflow.{Workflow}
 use Rattle.rules.specs.Cycle.{cyclic, lowest-in-cycle}
 use Rattle.rules.specs.Ranks.{cheapest-total}
-use Rattle.rules.specs.Method.{Method}
+use Rattle.rules.specs.Method.{Name, by-HBCS, by-cheapest, by-HEFT, method}
 use Rattle.rules.specs.Rows.{Row, Placed, row-of, length-of}
 use Rattle.rules.specs.Placing.{RB, place}
-use Rattle.rules.specs.Answer.{Outcome, plan, refusal, refuse, too-late, placed-outcome, outcome-of, outcome-by, planned, answer-of, written}
+use Rattle.rules.specs.Answer.{Outcome, plan, refusal, refuse, too-late, placed-outcome, checked, later-checks, outcome-of, outcome-by, planned, answer-of, written}
 use Rattle.rules.specs.Buffers.{Buffers, row-in, buffers-written}
 use Rattle.rules.specs.Multiplied.{multiplied-deadline, multiplied, multiplied-row, multiplied-place, multiplied-answer}
 use Rattle.laws.specs.Tests.{ltb-multiplied}
 use Rattle.laws.specs.Listing.{listing-mapped, take-listing}
-use Rattle.demands.specs.Ground.MethodLaws.{KeepsChoices}
 use Rattle.demands.specs.Ground.Held.{row-in-written}
+use Rattle.demands.specs.Demand3.HBCSMultiplied.{method-keeps-choices}
 use Rattle.demands.specs.Demand3.CostsMultiplied.{cheapest-total-multiplied, cyclic-multiplied, lowest-in-cycle-multiplied}
 use Rattle.demands.specs.Demand3.RowsMultiplied.{multiplied-placed, row-of-multiplied, spent-multiplied, length-of-multiplied}
 use Rattle.demands.specs.Demand3.PlacingMultiplied.{RB-multiplied, place-multiplied}
@@ -51,23 +51,31 @@ module _ (a b : ℕ) (pa : 1 ≤ a) (W : Workflow) where
       rw (length-of-multiplied a b rows, too-late-multiplied a pa (W .deadline) (length-of rows))
       (refuse-multiplied a b (too-late (W .deadline) (length-of rows)) 11 (length-of rows) (plan W rows))
 
-  pub outcome-by-multiplied :
-      1 ≤ b → (M : Method) → KeepsChoices M → (lent : ℕ)
-      → outcome-by M (multiplied a b W) lent ≡ multiplied-outcome a b (outcome-by M W lent)
-  unfolding outcome-by outcome-of multiplied-place multiplied
-  outcome-by-multiplied pb M keeps lent =
-      let placed = placed-outcome W (place M W (W .tasks)) in
-      let affordable = refuse (ltb (W .budget) (cheapest-total W)) 9 (cheapest-total W) placed in
-      let acyclic = refuse (cyclic W) 8 (lowest-in-cycle W) affordable in
+  later-checks-multiplied :
+      1 ≤ b → (M : Name) (rows : List Placed)
+      → later-checks M (multiplied a b W) (map (multiplied-placed a b) rows) ≡ multiplied-outcome a b (later-checks M W rows)
+  unfolding later-checks multiplied-outcome multiplied-place multiplied
+  later-checks-multiplied pb by-HBCS rows =
+      rw (
+        cheapest-total-multiplied a b W,
+        ltb-multiplied (a * b) (mul-pos pa pb) (W .budget) (cheapest-total W),
+        placed-outcome-multiplied rows,
+      )
+      (refuse-multiplied a b (ltb (W .budget) (cheapest-total W)) 9 (cheapest-total W) (placed-outcome W rows))
+  later-checks-multiplied pb by-cheapest rows = refl
+  later-checks-multiplied pb by-HEFT rows = refl
+
+  pub outcome-by-multiplied : 1 ≤ b → (M : Name) (lent : ℕ) → outcome-by M (multiplied a b W) lent ≡ multiplied-outcome a b (outcome-by M W lent)
+  unfolding outcome-by outcome-of checked multiplied-place multiplied
+  outcome-by-multiplied pb M lent =
+      let later = later-checks M W (place (method M) W (W .tasks)) in
+      let acyclic = refuse (cyclic W) 8 (lowest-in-cycle W) later in
       rw (
         cyclic-multiplied a b W,
         lowest-in-cycle-multiplied a b W,
-        cheapest-total-multiplied a b W,
-        ltb-multiplied (a * b) (mul-pos pa pb) (W .budget) (cheapest-total W),
-        place-multiplied a b pa W pb M keeps (W .tasks),
-        placed-outcome-multiplied (place M W (W .tasks)),
-        refuse-multiplied a b (ltb (W .budget) (cheapest-total W)) 9 (cheapest-total W) placed,
-        refuse-multiplied a b (cyclic W) 8 (lowest-in-cycle W) affordable,
+        place-multiplied a b pa W pb (method M) (method-keeps-choices M) (W .tasks),
+        later-checks-multiplied pb M (place (method M) W (W .tasks)),
+        refuse-multiplied a b (cyclic W) 8 (lowest-in-cycle W) later,
       )
       (refuse-multiplied a b (ltb lent (W .tasks)) 7 (W .tasks) acyclic)
 

@@ -1,4 +1,4 @@
--- HBCS keeps choices: the same processor is best, the same may be taken, and the scores grow alike, so that the same one is preferred.
+-- Each of the three methods keeps choices. HBCS: the same processor is best, the same may be taken, and the scores grow alike, so that the same one is preferred.
 -- Where RCB is above RB no processor may be taken in either question, and there the scores do not matter.
 use Prim.Native.Nat.{ℕ, _+_, _*_, _-_, _≤_, _<_}
 use mathlib.Core.Path.{_≡_, refl, sym, ap, ap₂, _∙_}
@@ -9,7 +9,7 @@ use native.Mathlib.Nat.{mul-add, mul-sub}
 use lib.Dec.{leb}
 use borrow.Author.Tests.{lt-leb}
 use Rattle.rules.specs.Orders.{tie, among}
-use Rattle.rules.specs.Method.{Question, best, may-be-taken, latest-finish, B, F, score, preferred, HBCS}
+use Rattle.rules.specs.Method.{Question, best, may-be-taken, latest-finish, B, F, score, preferred, HBCS, Cheapest, HEFT, Name, by-HBCS, by-cheapest, by-HEFT, method}
 use Rattle.laws.specs.Tests.{leb-multiplied}
 use Rattle.laws.specs.Folds.{largest-multiplied, lowest-multiplied}
 use Rattle.laws.specs.Orders.{lower-multiplied, higher-multiplied, among-same}
@@ -85,5 +85,17 @@ module _ (a c : ℕ) (pa : 1 ≤ a) (pc : 1 ≤ c) (q : Question) where
   HBCS-multiplied =
       first-same (q .processors) (preferred (multiplied-question a c q)) (preferred q) preferred-multiplied
 
+  cheapest-multiplied : Cheapest (multiplied-question a c q) ≡ Cheapest q
+  unfolding Cheapest multiplied-question
+  cheapest-multiplied =
+      first-same (q .processors) _ _ (λ i j l m.
+      lower-multiplied c pc _ (q .cost) _ _ i j refl refl (lower-multiplied a pa _ (q .finish) tie tie i j refl refl refl))
+
 pub HBCS-keeps-choices : KeepsChoices HBCS
 HBCS-keeps-choices = HBCS-multiplied
+
+pub method-keeps-choices : (M : Name) → KeepsChoices (method M)
+unfolding method HEFT
+method-keeps-choices by-HBCS = HBCS-keeps-choices
+method-keeps-choices by-cheapest = cheapest-multiplied
+method-keeps-choices by-HEFT = best-multiplied

@@ -21,7 +21,7 @@ module _ (q : Question) where
   pub best-cheapest : (j : ℕ) → j < q .processors → F q ≡ 0 → q .cost (best q) - q .cost j ≡ 0
   unfolding F latest-finish
   best-cheapest j l none =
-      let b = best-is-best q j l in
+      let b = best-is-best q (omega arith) in
       let most = at-most-largest (q .processors) (q .finish) j l in
       let least = lowest-at-most (q .processors) (q .finish) (best q) (b .processor) in
-      omega (arith, b .earliest j l, b .then-cheapest j l (omega (arith, b .earliest j l)))
+      omega (arith, b .lowest j l, b .then-lower j l (omega (arith, b .lowest j l)))

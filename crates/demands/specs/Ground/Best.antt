@@ -1,25 +1,33 @@
--- Best, and what may be taken, as document 01 says them.
+-- Best, the cheapest, and what may be taken, as the rules say them.
 use Prim.Native.Nat.{ℕ, _+_, _≤_, _<_}
-use mathlib.Core.Path.{_≡_, ap₂}
+use mathlib.Core.Path.{_≡_, sym, ap₂}
 use mathlib.Core.Bool.{true, _&&_, false≢true}
 use mathlib.Core.Logic.{⊎-elim}
 use native.Mathlib.Decide.{decLe}
 use native.Mathlib.Omega.{arith}
 use lib.Dec.{leb}
 use borrow.Author.Tests.{leb-true, le-leb}
-use Rattle.rules.specs.Orders.{Order, tie, lower}
-use Rattle.rules.specs.Method.{Question, best, may-be-taken}
+use Rattle.rules.specs.Orders.{Order, tie, lower, first}
+use Rattle.rules.specs.Method.{Question, best, may-be-taken, Cheapest}
 use Rattle.laws.specs.Tests.{and-both}
 use Rattle.laws.specs.Orders.{lower-true, lower-false}
 use Rattle.laws.specs.First.{first-below}
 use Rattle.laws.specs.Strict.{Strict, tie-strict, lower-strict, first-unbeaten, first-beats-lower}
 
+-- The lowest by a first figure; ties to the lower by a second, then to the lower number.
+pub record LowestBy (m : ℕ) (f g : ℕ → ℕ) (j : ℕ) : Type 0 where
+  pub processor : j < m
+  pub lowest : (k : ℕ) → k < m → f j ≤ f k
+  pub then-lower : (k : ℕ) → k < m → f k ≡ f j → g j ≤ g k
+  pub then-number : (k : ℕ) → k < m → f k ≡ f j → g k ≡ g j → j ≤ k
+
 -- "Best: earliest finish; ties to lower cost, then lower number."
-pub record IsBest (q : Question) (b : ℕ) : Type 0 where
-  pub processor : b < q .processors
-  pub earliest : (j : ℕ) → j < q .processors → q .finish b ≤ q .finish j
-  pub then-cheapest : (j : ℕ) → j < q .processors → q .finish j ≡ q .finish b → q .cost b ≤ q .cost j
-  pub then-lowest : (j : ℕ) → j < q .processors → q .finish j ≡ q .finish b → q .cost j ≡ q .cost b → b ≤ j
+abbrev pub IsBest : Question → ℕ → Type 0
+IsBest q b = LowestBy (q .processors) (q .finish) (q .cost) b
+
+-- "each task to its lowest cost, ties to earliest finish, then lower number"
+abbrev pub IsCheapest : Question → ℕ → Type 0
+IsCheapest q j = LowestBy (q .processors) (q .cost) (q .finish) j
 
 -- "j may be taken when cost(j) <= cost(best) and cost(j) <= RB - RCB."
 pub record MayBeTaken (q : Question) (b j : ℕ) : Type 0 where
@@ -27,42 +35,57 @@ pub record MayBeTaken (q : Question) (b j : ℕ) : Type 0 where
   pub as-best : q .cost j ≤ q .cost b
   pub leaves-enough : q .cost j + q .RCB ≤ q .RB
 
+module _ (m : ℕ) (f g : ℕ → ℕ) where
+  -- There is one, the first by that order, and only one.
+  abbrev the-first : ℕ
+  the-first = first m (lower f (lower g tie))
+
+  strict : Strict (lower f (lower g tie))
+  strict = lower-strict f (lower-strict g tie-strict)
+
+  not-beaten : (j : ℕ) → j < m → (f the-first ≤ f j) × (f j ≡ f the-first → g the-first ≤ g j)
+  not-beaten j l =
+      let (lowest, then-lower) = lower-false f (lower g tie) j the-first .0 (first-unbeaten strict m j l) in
+      (lowest, λ same. lower-false g tie j the-first .0 (then-lower same) .0)
+
+  first-of-equals : (j : ℕ) → f j ≡ f the-first → g j ≡ g the-first → the-first ≤ j
+  unfolding tie
+  first-of-equals j one other = go (decLe the-first j)
+    where
+      go : Dec (the-first ≤ j) → the-first ≤ j
+      go (yes l) = l
+      go (no higher) = absurd
+          (⊎-elim (λ (h : f the-first < f j). omega arith)
+          (λ h. ⊎-elim (λ (k : g the-first < g j). omega arith) (λ k. false≢true (k .1)) (lower-true g tie the-first j (h .1)))
+          (lower-true f (lower g tie) the-first j (first-beats-lower strict m j (omega arith))))
+
+  pub first-is-lowest-by : 1 ≤ m → LowestBy m f g the-first
+  first-is-lowest-by some =
+      record {
+        processor = first-below m _ some;
+        lowest = λ j l. not-beaten j l .0;
+        then-lower = λ j l. not-beaten j l .1;
+        then-number = λ j l. first-of-equals j;
+      }
+
+  pub lowest-by-settled : (j j′ : ℕ) → LowestBy m f g j → LowestBy m f g j′ → j ≡ j′
+  lowest-by-settled j j′ w w′ =
+      let one : f j ≡ f j′ = omega (arith, w .lowest j′ (w′ .processor), w′ .lowest j (w .processor)) in
+      let other : g j ≡ g j′ = omega (arith, w .then-lower j′ (w′ .processor) (sym one), w′ .then-lower j (w .processor) one) in
+      omega (arith, w .then-number j′ (w′ .processor) (sym one) (sym other), w′ .then-number j (w .processor) one other)
+
 module _ (q : Question) where
-  abbrev by-cost : Order
-  by-cost = lower (q .cost) tie
-
-  strict : Strict (lower (q .finish) by-cost)
-  strict = lower-strict (q .finish) (lower-strict (q .cost) tie-strict)
-
   pub best-below : (j : ℕ) → j < q .processors → best q < q .processors
   unfolding best
   best-below j l = first-below (q .processors) _ (omega arith)
 
-  not-beaten : (j : ℕ) → j < q .processors → (q .finish (best q) ≤ q .finish j) × (q .finish j ≡ q .finish (best q) → q .cost (best q) ≤ q .cost j)
+  pub best-is-best : 1 ≤ q .processors → IsBest q (best q)
   unfolding best
-  not-beaten j l =
-      let (earliest, then-cheapest) = lower-false (q .finish) by-cost j (best q) .0 (first-unbeaten strict (q .processors) j l) in
-      (earliest, λ same. lower-false (q .cost) tie j (best q) .0 (then-cheapest same) .0)
+  best-is-best = first-is-lowest-by (q .processors) (q .finish) (q .cost)
 
-  lowest-of-equals : (j : ℕ) → q .finish j ≡ q .finish (best q) → q .cost j ≡ q .cost (best q) → best q ≤ j
-  unfolding best tie
-  lowest-of-equals j finish cost = go (decLe (best q) j)
-    where
-      go : Dec (best q ≤ j) → best q ≤ j
-      go (yes l) = l
-      go (no higher) = absurd
-          (⊎-elim (λ (h : q .finish (best q) < q .finish j). omega arith)
-          (λ h. ⊎-elim (λ (g : q .cost (best q) < q .cost j). omega arith) (λ g. false≢true (g .1)) (lower-true (q .cost) tie (best q) j (h .1)))
-          (lower-true (q .finish) by-cost (best q) j (first-beats-lower strict (q .processors) j (omega arith))))
-
-  pub best-is-best : (j : ℕ) → j < q .processors → IsBest q (best q)
-  best-is-best k below =
-      record {
-        processor = best-below k below;
-        earliest = λ j l. not-beaten j l .0;
-        then-cheapest = λ j l. not-beaten j l .1;
-        then-lowest = λ j l. lowest-of-equals j;
-      }
+  pub cheapest-is-cheapest : 1 ≤ q .processors → IsCheapest q (Cheapest q)
+  unfolding Cheapest
+  cheapest-is-cheapest = first-is-lowest-by (q .processors) (q .cost) (q .finish)
 
   pub may-of-test : (j : ℕ) → j < q .processors → may-be-taken q j ≡ true → MayBeTaken q (best q) j
   unfolding may-be-taken

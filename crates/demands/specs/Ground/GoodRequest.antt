@@ -11,19 +11,20 @@ use borrow.Author.Tests.{le-ltb}
 use Rattle.rules.specs.Records.{read, stopped}
 use Rattle.rules.specs.Reading.{Request, read-request}
 use Rattle.rules.specs.Workflow.{Workflow, workflow}
-use Rattle.rules.specs.Method.{HBCS}
-use Rattle.rules.specs.Answer.{refusal, outcome-by, outcome-read, outcome}
+use Rattle.rules.specs.Method.{Name}
+use Rattle.rules.specs.Budget.{workflow-for}
+use Rattle.rules.specs.Answer.{refusal, outcome-by, outcome-read, outcome-asked}
 
 pub outcome-of-good :
-    (s : List ℕ) {end : ℕ} {r : Request} → read-request s ≡ read end r → (lent : ℕ)
-    → outcome s lent ≡ outcome-by HBCS (workflow s r) lent
-unfolding outcome outcome-read
-outcome-of-good s good lent = rw good
+    (M : Name) (s : List ℕ) {end : ℕ} {r : Request} → read-request s ≡ read end r → (lent : ℕ)
+    → outcome-asked M s lent ≡ outcome-by M (workflow-for M s r) lent
+unfolding outcome-asked outcome-read
+outcome-of-good M s good lent = rw good
 
 pub outcome-of-stopped :
-    (s : List ℕ) {number place : ℕ} → read-request s ≡ stopped number place → (lent : ℕ) → outcome s lent ≡ refusal number place
-unfolding outcome outcome-read
-outcome-of-stopped s e lent = rw e
+    (M : Name) (s : List ℕ) {number place : ℕ} → read-request s ≡ stopped number place → (lent : ℕ) → outcome-asked M s lent ≡ refusal number place
+unfolding outcome-asked outcome-read
+outcome-of-stopped M s e lent = rw e
 
 -- Always x from k on; and 0.
 abbrev pub EndsIn : {A : Type 0} → A → ℕ → (ℕ → A) → Type 0
