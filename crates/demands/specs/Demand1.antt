@@ -1,6 +1,6 @@
 -- Demand 1: every byte string is answered, one way, a refusal changes nothing, and no label off the list gets through. Below: what reading is (`Wanted`,
--- `Reads`), that reading does just that (`Reading`), the request that stands in the bytes (`Stands`), what a fifth window is (`FifthWindow`), and which of
--- document 01's ranges has changed (`NoMinutes`). The other files are what these rest on.
+-- `Reads`), that reading does just that (`Reading`), the request that stands in the bytes (`Stands`), which records may not stand past a `D` or a `K`
+-- (`NoMore`), what a fifth window is (`FifthWindow`), and which of document 01's ranges has changed (`NoMinutes`). The other files are what these rest on.
 pub mod Wanted
 pub mod Tells
 pub mod Reads
@@ -18,6 +18,7 @@ pub mod RecordsPass
 pub mod Stands
 pub mod Reading
 pub mod LabelBytes
+pub mod NoMore
 pub mod FifthWindow
 pub mod NoMinutes
 use Prim.Native.Nat.{ℕ, _+_, _≤_, _<_}

@@ -1,10 +1,11 @@
 -- The parts of a request that were read, each record at its place: processors, tasks with their minutes, the deadline and the share.
-use mathlib.Core.Path.{_≡_, subst}
+use mathlib.Core.Path.{_≡_, refl, subst₂}
 use Prim.Native.Nat.{ℕ, _+_, _*_, _<_, _≤_}
 use native.Mathlib.Omega.{arith}
 use mathlib.Core.Bool.{Bool, true, false, cond}
 use mathlib.Core.List.{List}
 use lib.Dec.{eqb}
+use borrow.Author.Tests.{eqb-true, eqb-false}
 use Rattle.label.specs.Label.{Label}
 use Rattle.label.specs.Length.{label-length}
 use Rattle.rules.specs.Fields.{Kind, D, K, T, W, size, kind-byte, byte, D-deadline, K-share, T-label, W-minutes}
@@ -44,7 +45,26 @@ task-part-read s m at i {next} e =
 pub task-steps : (s : List ℕ) (m : ℕ) → Steps (task-part s m) (size T + m * size W)
 task-steps s m at i next a e = task-part-read s m at i e .ends
 
--- "at most one" of a kind was read, and what comes after it begins at `next`; this holds of what was given, or of what holds without one.
+-- "at most one" of a kind was read: the one that stands there, with what it gives, or none.
+pub optional-cases : {A : Type 0} {next : ℕ} {a : A} (s : List ℕ) (kind : Kind) (part : Read Record) (at : ℕ) (given without : A) (P : ℕ → A → Type 0) →
+    ((next : ℕ) (was : Record) → byte s at ≡ kind-byte kind → part ≡ read next was → P next given) →
+    ((byte s at ≡ kind-byte kind → ⊥) → P at without) → optional s kind part at given without ≡ read next a → P next a
+unfolding optional
+optional-cases {A} {next} {a} s kind part at given without P one none e = go (eqb (byte s at) (kind-byte kind)) refl e
+  where
+    go : (t : Bool) → eqb (byte s at) (kind-byte kind) ≡ t →
+        cond t (then part (λ next _. read next given)) (read at without) ≡ read next a → P next a
+    go true is p =
+        let (place, was, here, done) = then-read _ _ p in
+        let there : place ≡ next = cc in
+        let same : given ≡ a = cc in
+        subst₂ P there same (one place was (eqb-true _ _ is) here)
+    go false is p =
+        let there : at ≡ next = cc in
+        let same : without ≡ a = cc in
+        subst₂ P there same (none (eqb-false _ _ is))
+
+-- What comes after it begins at `next`, and this holds of what was read.
 pub record OptionalRead (kind : Kind) (at next : ℕ) (Holds : Type 0) : Type 0 where
   pub begins : at ≤ next
   pub ends : next ≤ at + size kind
@@ -53,20 +73,10 @@ pub record OptionalRead (kind : Kind) (at next : ℕ) (Holds : Type 0) : Type 0 
 optional-read : {A : Type 0} {next : ℕ} {a : A} (s : List ℕ) (kind : Kind) (part : Read Record) (at : ℕ) (given without : A) (Holds : A → Type 0) →
     ((next : ℕ) (was : Record) → part ≡ read next was → (next ≡ at + size kind) × Holds given) → Holds without →
     optional s kind part at given without ≡ read next a → OptionalRead kind at next (Holds a)
-unfolding optional
-optional-read {A} {next} {a} s kind part at given without Holds one none e = go (eqb (byte s at) (kind-byte kind)) e
-  where
-    go : (t : Bool) → cond t (then part (λ next _. read next given)) (read at without) ≡ read next a → OptionalRead kind at next (Holds a)
-    go true p =
-        let (place, was, here, done) = then-read _ _ p in
-        let (ends, holds) = one place was here in
-        let there : place ≡ next = cc in
-        let same : given ≡ a = cc in
-        record { begins = omega arith; ends = omega arith; holds = subst Holds same holds }
-    go false p =
-        let there : at ≡ next = cc in
-        let same : without ≡ a = cc in
-        record { begins = omega arith; ends = omega arith; holds = subst Holds same none }
+optional-read s kind part at given without Holds one none =
+    optional-cases s kind part at given without (λ next a. OptionalRead kind at next (Holds a))
+    (λ next was there e. let (ends, holds) = one next was e in record { begins = omega arith; ends = omega arith; holds = holds })
+    (λ other. record { begins = omega arith; ends = omega arith; holds = none })
 
 pub deadline-part-read : (s : List ℕ) (at : ℕ) {next : ℕ} {d : Deadline} → deadline-part s at ≡ read next d →
     OptionalRead D at next ((x : ℕ) → d ≡ by x → Between 1 x 200_000)

@@ -4,7 +4,7 @@ use Prim.Native.Nat.{ℕ}
 use mathlib.Core.List.{List}
 use borrow.Author.Tests.{eq-eqb, ne-eqb}
 use Rattle.rules.specs.Fields.{Kind, kind-byte, byte}
-use Rattle.rules.specs.Records.{Record, Read, read, stopped}
+use Rattle.rules.specs.Records.{Record, Read, read}
 use Rattle.rules.specs.Reading.{then, optional}
 use Rattle.records.specs.declared.Cursor.{Cursor}
 use Rattle.records.specs.declared.Record as code

@@ -6,13 +6,14 @@ use mathlib.Core.List.{List, [], _∷_}
 use mathlib.Core.Logic.{_⊎_, inl, inr}
 use native.Mathlib.Omega.{arith}
 use lib.ListN.{length}
-use Rattle.rules.specs.Fields.{D, kind-byte, size, byte}
-use Rattle.demands.specs.Demand1.Wanted.{ProcessorKind, as-P, as-Q, Wanted, processor, kind-of, Room, NumbersDue, FieldsInRange, HasLabel, Whole, Passes}
-use Rattle.demands.specs.Demand1.Reads.{DueHere, nothing, IsDue, that-one, a-deadline, or-the-first-processor, either-kind, a-window, or-the-first-task}
-use Rattle.demands.specs.Demand1.Reads.{an-edge, or-the-end}
+use Rattle.rules.specs.Fields.{kind-byte, size, byte}
+use Rattle.demands.specs.Demand1.Wanted.{Single, deadline, share, ProcessorKind, as-P, as-Q, Wanted, header, single, processor, window, task, minutes}
+use Rattle.demands.specs.Demand1.Wanted.{edge, end, kind-of, Room, NumbersDue, FieldsInRange, HasLabel, Whole, Passes}
+use Rattle.demands.specs.Demand1.Reads.{DueHere, nothing, IsDue, that-one, that-single, or-later, either-kind, a-window, or-the-first-task, an-edge}
+use Rattle.demands.specs.Demand1.Reads.{or-the-end}
 use Rattle.demands.specs.Demand1.Reads.{Fault, no-kind-byte, cut-short, kind-not-due, not-the-one-due, out-of-range, no-room, bad-label, bytes-after}
 
--- The kinds of processor records are told apart by their bytes, and from `D`.
+-- The kinds of processor records are told apart by their bytes.
 kinds-told : (k k′ : ProcessorKind) (j : ℕ) → kind-byte (kind-of (processor k j)) ≡ kind-byte (kind-of (processor k′ j)) → processor k j ≡ processor k′ j
 unfolding kind-byte
 kinds-told as-P as-P j e = refl
@@ -20,19 +21,38 @@ kinds-told as-P as-Q j e = absurd (omega arith)
 kinds-told as-Q as-P j e = absurd (omega arith)
 kinds-told as-Q as-Q j e = refl
 
-no-deadline-kind : (k : ProcessorKind) (j : ℕ) → kind-byte (kind-of (processor k j)) ≡ kind-byte D → ⊥
+-- So is a `D` or a `K` from every other record.
+pub single-told : (o : Single) (v : Wanted) → kind-byte (kind-of v) ≡ kind-byte (kind-of (single o)) → v ≡ single o
 unfolding kind-byte
-no-deadline-kind as-P j e = omega arith
-no-deadline-kind as-Q j e = omega arith
+single-told deadline (single deadline) e = refl
+single-told deadline header e = absurd (omega arith)
+single-told deadline (single share) e = absurd (omega arith)
+single-told deadline (processor as-P j) e = absurd (omega arith)
+single-told deadline (processor as-Q j) e = absurd (omega arith)
+single-told deadline (task i) e = absurd (omega arith)
+single-told deadline (minutes i j) e = absurd (omega arith)
+single-told deadline (window before) e = absurd (omega arith)
+single-told deadline (edge before) e = absurd (omega arith)
+single-told deadline end e = absurd (omega arith)
+single-told share (single share) e = refl
+single-told share header e = absurd (omega arith)
+single-told share (single deadline) e = absurd (omega arith)
+single-told share (processor as-P j) e = absurd (omega arith)
+single-told share (processor as-Q j) e = absurd (omega arith)
+single-told share (task i) e = absurd (omega arith)
+single-told share (minutes i j) e = absurd (omega arith)
+single-told share (window before) e = absurd (omega arith)
+single-told share (edge before) e = absurd (omega arith)
+single-told share end e = absurd (omega arith)
 
 -- Of the records due no two are of one kind.
 pub due-unique : {due : DueHere} {v w : Wanted} → IsDue due v → IsDue due w → kind-byte (kind-of v) ≡ kind-byte (kind-of w) → v ≡ w
 unfolding kind-byte
 due-unique that-one that-one e = refl
-due-unique a-deadline a-deadline e = refl
-due-unique a-deadline (or-the-first-processor {k = k}) e = absurd (no-deadline-kind k 0 (sym e))
-due-unique (or-the-first-processor {k = k}) a-deadline e = absurd (no-deadline-kind k 0 e)
-due-unique (or-the-first-processor {k = k}) (or-the-first-processor {k = k′}) e = kinds-told k k′ 0 e
+due-unique that-single that-single e = refl
+due-unique (that-single {o = o}) (or-later d) e = sym (single-told o _ (sym e))
+due-unique (or-later d) (that-single {o = o}) e = single-told o _ e
+due-unique (or-later d) (or-later d′) e = due-unique d d′ e
 due-unique (either-kind {k = k} {j = j}) (either-kind {k = k′}) e = kinds-told k k′ j e
 due-unique a-window a-window e = refl
 due-unique a-window or-the-first-task e = absurd (omega arith)
@@ -45,8 +65,8 @@ due-unique or-the-end or-the-end e = refl
 
 pub nothing-not-due : {due : DueHere} {w : Wanted} → IsDue due w → due ≡ nothing → ⊥
 nothing-not-due that-one e = let z : _≡_ {A = ℕ} 0 1 = cc in omega arith
-nothing-not-due a-deadline e = let z : _≡_ {A = ℕ} 0 1 = cc in omega arith
-nothing-not-due or-the-first-processor e = let z : _≡_ {A = ℕ} 0 1 = cc in omega arith
+nothing-not-due that-single e = let z : _≡_ {A = ℕ} 0 1 = cc in omega arith
+nothing-not-due (or-later d) e = let z : _≡_ {A = ℕ} 0 1 = cc in omega arith
 nothing-not-due either-kind e = let z : _≡_ {A = ℕ} 0 1 = cc in omega arith
 nothing-not-due a-window e = let z : _≡_ {A = ℕ} 0 1 = cc in omega arith
 nothing-not-due or-the-first-task e = let z : _≡_ {A = ℕ} 0 1 = cc in omega arith

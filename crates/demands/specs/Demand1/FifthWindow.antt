@@ -5,17 +5,17 @@ use mathlib.Core.List.{List}
 use mathlib.Core.Logic.{inl, inr}
 use native.Mathlib.Omega.{arith}
 use Rattle.rules.specs.Fields.{M, size, body, M-processor, M-begin}
-use Rattle.demands.specs.Demand1.Wanted.{Wanted, header, deadline, processor, task, minutes, window, edge, end, kind-of, After, IsAbove, NumbersDue, IsFifth}
+use Rattle.demands.specs.Demand1.Wanted.{Wanted, header, single, processor, task, minutes, window, edge, end, kind-of, After, IsAbove, NumbersDue, IsFifth}
 use Rattle.demands.specs.Demand1.Wanted.{Passes}
-use Rattle.demands.specs.Demand1.Reads.{DueHere, only, deadline-or-processor, either-processor, window-or-task, edge-or-end, nothing, IsDue, that-one}
-use Rattle.demands.specs.Demand1.Reads.{a-window, Follows, after-header, after-deadline, next-processor, first-window, next-window, first-minutes}
-use Rattle.demands.specs.Demand1.Reads.{next-minutes, next-task, first-edge, next-edge, after-end, Comes, at-the-front, past}
+use Rattle.demands.specs.Demand1.Reads.{DueHere, only, at-most-one, either-processor, window-or-task, edge-or-end, nothing, IsDue, that-one, or-later}
+use Rattle.demands.specs.Demand1.Reads.{a-window, Follows, after-header, after-deadline, after-share, next-processor, first-window, next-window}
+use Rattle.demands.specs.Demand1.Reads.{first-minutes, next-minutes, next-task, first-edge, next-edge, after-end, Comes, at-the-front, past}
 
 -- What is due with windows before it: how many; else none.
 abbrev windows-before : DueHere → ℕ
 windows-before (window-or-task before) = before
 windows-before (only w) = 0
-windows-before deadline-or-processor = 0
+windows-before (at-most-one o later) = windows-before later
 windows-before (either-processor j) = 0
 windows-before (edge-or-end before) = 0
 windows-before nothing = 0
@@ -33,13 +33,13 @@ pub record WindowBefore (s : List ℕ) (at before : ℕ) : Type 0 where
 abbrev NotAlone : DueHere → Type 0
 NotAlone (only (window before)) = ⊥
 NotAlone (only header) = Unit {0}
-NotAlone (only deadline) = Unit {0}
+NotAlone (only (single o)) = Unit {0}
 NotAlone (only (processor k j)) = Unit {0}
 NotAlone (only (task i)) = Unit {0}
 NotAlone (only (minutes i j)) = Unit {0}
 NotAlone (only (edge before)) = Unit {0}
 NotAlone (only end) = Unit {0}
-NotAlone deadline-or-processor = Unit {0}
+NotAlone (at-most-one o later) = NotAlone later
 NotAlone (either-processor j) = Unit {0}
 NotAlone (window-or-task before) = Unit {0}
 NotAlone (edge-or-end before) = Unit {0}
@@ -48,6 +48,7 @@ NotAlone nothing = Unit {0}
 follows-not-alone : {s : List ℕ} {at : ℕ} {w : Wanted} {due : DueHere} → Follows s at w due → NotAlone due
 follows-not-alone after-header = tt
 follows-not-alone after-deadline = tt
+follows-not-alone after-share = tt
 follows-not-alone (next-processor l) = tt
 follows-not-alone (first-window e) = tt
 follows-not-alone next-window = tt
@@ -62,9 +63,10 @@ comes-not-alone : {s : List ℕ} {due : DueHere} {at : ℕ} → Comes s due at �
 comes-not-alone at-the-front = tt
 comes-not-alone (past before d passes follows) = follows-not-alone follows
 
-as-many-due : {s : List ℕ} {due : DueHere} {at before : ℕ} → Comes s due at → IsDue due (window before) → windows-before due ≡ before
-as-many-due comes that-one = absurd (comes-not-alone comes)
-as-many-due comes a-window = refl
+as-many-due : {due : DueHere} {before : ℕ} → NotAlone due → IsDue due (window before) → windows-before due ≡ before
+as-many-due with-another that-one = absurd with-another
+as-many-due with-another (or-later d) = as-many-due with-another d
+as-many-due with-another a-window = refl
 
 -- One window back.
 one-back : {s : List ℕ} {due : DueHere} {at before : ℕ} → Comes s due at → windows-before due ≡ suc before → WindowBefore s at before
@@ -76,6 +78,7 @@ one-back {s} {before = before} (past {due = due} {at = at} {w = w} comes d passe
         → windows-before next ≡ suc before → WindowBefore s (at + size (kind-of w)) before
     go comes d passes after-header e = absurd (omega arith)
     go comes d passes after-deadline e = absurd (omega arith)
+    go comes d passes after-share e = absurd (omega arith)
     go comes d passes (next-processor l) e = absurd (omega arith)
     go comes d passes (first-window q) e = absurd (omega arith)
     go {due} {at = at} comes d passes (next-window {before = k}) e =
@@ -86,7 +89,7 @@ one-back {s} {before = before} (past {due = due} {at = at} {w = w} comes d passe
           passes = subst (λ x. Passes s at (window x)) same passes;
           due = due;
           comes = comes;
-          as-many = as-many-due comes d ∙ same;
+          as-many = as-many-due (comes-not-alone comes) d ∙ same;
         }
     go comes d passes first-minutes e = absurd (omega arith)
     go comes d passes (next-minutes l) e = absurd (omega arith)

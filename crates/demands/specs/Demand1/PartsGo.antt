@@ -5,23 +5,23 @@ use mathlib.Core.Bool.{Bool, cond}
 use mathlib.Core.List.{List}
 use native.Mathlib.Nat.{suc-mul}
 use native.Mathlib.Omega.{arith}
-use Rattle.rules.specs.Fields.{Kind, D, Q, M, E, kind-byte, size, byte, H-tasks, H-processors, D-deadline}
-use Rattle.rules.specs.Records.{Record, Read, read, stopped, deadline-at, price-at, minimum-at, processor-at, window-at, edge-at}
-use Rattle.rules.specs.Reading.{then, each, no-deadline, by, deadline-part, prices-part, how-many, run-part, windows-part, task-part, tasks-part}
+use Rattle.rules.specs.Fields.{Kind, Q, M, E, kind-byte, size, byte, H-tasks, H-processors, H-budget}
+use Rattle.rules.specs.Records.{Record, Read, read, stopped, price-at, minimum-at, processor-at, window-at, edge-at}
+use Rattle.rules.specs.Reading.{then, each, optional, deadline-part, share-part, prices-part, how-many, run-part, windows-part, task-part, tasks-part}
 use Rattle.rules.specs.Reading.{edges-part}
 use Rattle.good.specs.Runs.{of-that-kind, then-another, edges-found, windows-found, windows-at-most}
-use Rattle.demands.specs.Demand1.Wanted.{ProcessorKind, as-P, as-Q, Wanted, processor, task, minutes, end, kind-of}
-use Rattle.demands.specs.Demand1.Reads.{DueHere, only, deadline-or-processor, either-processor, window-or-task, edge-or-end, IsDue}
-use Rattle.demands.specs.Demand1.Reads.{a-deadline, or-the-first-processor, either-kind, a-window, or-the-first-task, an-edge, or-the-end, after-deadline}
+use Rattle.demands.specs.Demand1.Wanted.{Single, deadline, share, ProcessorKind, as-P, as-Q, Wanted, single, processor, task, minutes, end, kind-of}
+use Rattle.demands.specs.Demand1.Reads.{DueHere, only, at-most-one, either-processor, window-or-task, edge-or-end, IsDue, that-single, or-later}
+use Rattle.demands.specs.Demand1.Reads.{either-kind, a-window, or-the-first-task, an-edge, or-the-end, Follows}
 use Rattle.demands.specs.Demand1.Reads.{next-processor, first-window, next-window, first-minutes, next-minutes, next-task, first-edge}
 use Rattle.demands.specs.Demand1.Reads.{next-edge, Comes, Stops}
 use Rattle.demands.specs.Demand1.FaultSettled.{due-unique}
 use Rattle.demands.specs.Demand1.Tells.{Tells, holds, fails, eqb-tells}
 use Rattle.demands.specs.Demand1.Goes.{Goes, on, ends, goes-on, goes-ends, goes-further, goes-then, goes-each}
 use Rattle.demands.specs.Demand1.ReadsSettled.{comes-inside}
-use Rattle.demands.specs.Demand1.DueAt.{Past}
+use Rattle.demands.specs.Demand1.DueAt.{DueAt, Past, Faulty}
 use Rattle.demands.specs.Demand1.Awaits.{Awaits, awaits-only, comes-past, awaited}
-use Rattle.demands.specs.Demand1.RecordGoes.{deadline-goes, price-goes, minimum-goes, window-goes, task-goes, minutes-goes, edge-goes}
+use Rattle.demands.specs.Demand1.RecordGoes.{deadline-goes, share-goes, price-goes, minimum-goes, window-goes, task-goes, minutes-goes, edge-goes}
 
 -- The record stands there that is due, or the other of two.
 awaits-standing :
@@ -33,41 +33,38 @@ awaits-standing {due} comes d kind =
       comes = comes;
     }
 
--- A processor record that reading awaits, in either kind: of the records due none of another kind stands there.
-pub record AwaitsProcessor (s : List ℕ) (at j : ℕ) : Type 0 where
+-- Reading awaits this: it is due, and of what is due besides nothing stands there.
+pub record AwaitsDue (s : List ℕ) (at : ℕ) (this : DueHere) : Type 0 where
   pub due : DueHere
-  pub is-due : (k : ProcessorKind) → IsDue due (processor k j)
-  pub no-other : (v : Wanted) → IsDue due v → byte s at ≡ kind-byte (kind-of v) → (k : ProcessorKind) × (v ≡ processor k j)
+  pub is-due : (w : Wanted) → IsDue this w → IsDue due w
+  pub no-other : (v : Wanted) → IsDue due v → byte s at ≡ kind-byte (kind-of v) → IsDue this v
   pub comes : Comes s due at
 
 module _ {s : List ℕ} {at : ℕ} where
-  awaits-first : Comes s deadline-or-processor at → (byte s at ≡ kind-byte D → ⊥) → AwaitsProcessor s at 0
-  awaits-first comes other =
-      record { due = deadline-or-processor; is-due = λ k. or-the-first-processor; no-other = λ v. one; comes = comes }
-    where
-      one : {v : Wanted} → IsDue deadline-or-processor v → byte s at ≡ kind-byte (kind-of v) → (k : ProcessorKind) × (v ≡ processor k 0)
-      one a-deadline d = absurd (other d)
-      one (or-the-first-processor {k = k}) d = (k, refl)
+  pub awaits-due : {due : DueHere} → Comes s due at → AwaitsDue s at due
+  awaits-due {due} comes = record { due = due; is-due = λ w d. d; no-other = λ v d b. d; comes = comes }
 
-  awaits-either : {j : ℕ} → Comes s (either-processor j) at → AwaitsProcessor s at j
-  awaits-either {j} comes =
-      record { due = either-processor j; is-due = λ k. either-kind; no-other = λ v d b. one d; comes = comes }
+  -- No such record stands there, so it is what comes later that is awaited.
+  awaits-later : {o : Single} {later : DueHere} → AwaitsDue s at (at-most-one o later) → (byte s at ≡ kind-byte (kind-of (single o)) → ⊥) → AwaitsDue s at later
+  awaits-later {o} {later} a other =
+      record { due = a .due; is-due = λ w d. a .is-due w (or-later d); no-other = λ v d b. one b (a .no-other v d b); comes = a .comes }
     where
-      one : {v : Wanted} → IsDue (either-processor j) v → (k : ProcessorKind) × (v ≡ processor k j)
-      one (either-kind {k = k}) = (k, refl)
+      one : {v : Wanted} → byte s at ≡ kind-byte (kind-of v) → IsDue (at-most-one o later) v → IsDue later v
+      one b that-single = absurd (other b)
+      one b (or-later d) = d
 
   -- No `Q` stands there, so it is a `P` that is awaited.
-  awaits-P : {j : ℕ} → AwaitsProcessor s at j → (byte s at ≡ kind-byte Q → ⊥) → Awaits s at (processor as-P j)
+  awaits-P : {j : ℕ} → AwaitsDue s at (either-processor j) → (byte s at ≡ kind-byte Q → ⊥) → Awaits s at (processor as-P j)
   awaits-P {j} a other =
       record {
         due = a .due;
-        here = record { inside = comes-inside (a .comes); is-due = a .is-due as-P; no-other = λ v d b. one v b (a .no-other v d b) };
+        here = record { inside = comes-inside (a .comes); is-due = a .is-due _ either-kind; no-other = λ v d b. one b (a .no-other v d b) };
         comes = a .comes;
       }
     where
-      one : (v : Wanted) → byte s at ≡ kind-byte (kind-of v) → (k : ProcessorKind) × (v ≡ processor k j) → v ≡ processor as-P j
-      one v b (as-P, e) = e
-      one v b (as-Q, e) = absurd (other (rw e at b))
+      one : {v : Wanted} → byte s at ≡ kind-byte (kind-of v) → IsDue (either-processor j) v → v ≡ processor as-P j
+      one b (either-kind {k = as-P}) = refl
+      one b (either-kind {k = as-Q}) = absurd (other b)
 
   -- No window stands there, so it is the first task that is awaited; no edge, so it is the end.
   pub awaits-first-task : {before : ℕ} → Comes s (window-or-task before) at → (byte s at ≡ kind-byte M → ⊥) → Awaits s at (task 0)
@@ -103,7 +100,7 @@ module _ (s : List ℕ) where
   MinutesNext i j at = (j < H-processors s 0 → Comes s (only (minutes i j)) at) × (j ≡ H-processors s 0 → TaskNext (suc i) at)
 
   abbrev ProcessorNext : ℕ → ℕ → Type 0
-  ProcessorNext j at = (j < H-processors s 0 → AwaitsProcessor s at j) × (j ≡ H-processors s 0 → Comes s (window-or-task 0) at)
+  ProcessorNext j at = (j < H-processors s 0 → AwaitsDue s at (either-processor j)) × (j ≡ H-processors s 0 → Comes s (window-or-task 0) at)
 
   task-part-goes :
       (i at : ℕ) → 1 ≤ H-processors s 0 → Awaits s at (task i)
@@ -132,9 +129,9 @@ module _ (s : List ℕ) where
 
   past-processor :
       {k : ProcessorKind} {j at next : ℕ} {r : Record} (a : Awaits s at (processor k j)) → Past s at (processor k j) next r → ProcessorNext (suc j) next
-  past-processor a p = (λ more. awaits-either (comes-past a p (next-processor more)), λ e. comes-past a p (first-window e))
+  past-processor a p = (λ more. awaits-due (comes-past a p (next-processor more)), λ e. comes-past a p (first-window e))
 
-  processor-goes : (j at : ℕ) → AwaitsProcessor s at j → Goes (λ next _. ProcessorNext (suc j) next) (Stops s) (processor-at s at j)
+  processor-goes : (j at : ℕ) → AwaitsDue s at (either-processor j) → Goes (λ next _. ProcessorNext (suc j) next) (Stops s) (processor-at s at j)
   unfolding processor-at
   processor-goes j at a = go (eqb-tells (byte s at) (kind-byte Q))
     where
@@ -142,14 +139,14 @@ module _ (s : List ℕ) where
           {t : Bool} → Tells (byte s at ≡ kind-byte Q) t
           → Goes (λ next _. ProcessorNext (suc j) next) (Stops s) (cond t (minimum-at s at j) (price-at s at j))
       go (holds kind) =
-          let b = awaits-standing (a .comes) (a .is-due as-Q) kind in
+          let b = awaits-standing (a .comes) (a .is-due (processor as-Q j) either-kind) kind in
           goes-further (awaited b (minimum-goes s at j (b .here))) (λ after _ p. past-processor b p)
       go (fails other) =
           let b = awaits-P a other in
           goes-further (awaited b (price-goes s at j (b .here))) (λ after _ p. past-processor b p)
 
   pub prices-part-goes :
-      (at : ℕ) → 1 ≤ H-processors s 0 → AwaitsProcessor s at 0
+      (at : ℕ) → 1 ≤ H-processors s 0 → AwaitsDue s at (either-processor 0)
       → Goes (λ next _. Comes s (window-or-task 0) next) (Stops s) (prices-part s (H-processors s 0) at)
   unfolding prices-part
   prices-part-goes at some first =
@@ -157,18 +154,32 @@ module _ (s : List ℕ) where
       (goes-each ProcessorNext (H-processors s 0) (λ l. first, λ e. absurd (omega arith)) (λ j place l here. processor-goes j place (here .0 l)))
       (λ after _ q. q .1 refl)
 
-  pub deadline-part-goes :
-      (at : ℕ) → Comes s deadline-or-processor at → Goes (λ next _. AwaitsProcessor s next 0) (Stops s) (deadline-part s at)
-  unfolding deadline-part
-  deadline-part-goes at comes = go (eqb-tells (byte s at) (kind-byte D))
+  -- Where at most one is due, it stands there and is awaited, or what comes later is.
+  optional-goes :
+      {A : Type 0} {later : DueHere} (o : Single) (part : Read Record) (at : ℕ) (given without : A) → Follows s at (single o) later
+      → ((due : DueHere) → DueAt s due at (single o) → Goes (Past s at (single o)) (Faulty s due at) part) → AwaitsDue s at (at-most-one o later)
+      → Goes (λ next _. AwaitsDue s next later) (Stops s) (optional s (kind-of (single o)) part at given without)
+  unfolding optional
+  optional-goes {later = later} o part at given without follows one a = go (eqb-tells (byte s at) (kind-byte (kind-of (single o))))
     where
-      go : {t : Bool} → Tells (byte s at ≡ kind-byte D) t
-          → Goes (λ next _. AwaitsProcessor s next 0) (Stops s)
-          (cond t (then (deadline-at s at) (λ next _. read next (by (D-deadline s at)))) (read at no-deadline))
+      go : {t : Bool} → Tells (byte s at ≡ kind-byte (kind-of (single o))) t
+          → Goes (λ next _. AwaitsDue s next later) (Stops s) (cond t (then part (λ next _. read next given)) (read at without))
       go (holds kind) =
-          let a = awaits-standing comes a-deadline kind in
-          goes-then (awaited a (deadline-goes s at (a .here))) (λ next _ p. on (awaits-either (comes-past a p after-deadline)))
-      go (fails other) = on (awaits-first comes other)
+          let b = awaits-standing (a .comes) (a .is-due (single o) that-single) kind in
+          goes-then (awaited b (one (b .due) (b .here))) (λ next _ p. on (awaits-due (comes-past b p follows)))
+      go (fails other) = on (awaits-later a other)
+
+  pub deadline-part-goes :
+      {later : DueHere} (at : ℕ) → Follows s at (single deadline) later → AwaitsDue s at (at-most-one deadline later)
+      → Goes (λ next _. AwaitsDue s next later) (Stops s) (deadline-part s at)
+  unfolding deadline-part
+  deadline-part-goes at follows = optional-goes deadline _ at _ _ follows (λ due. deadline-goes s at)
+
+  pub share-part-goes :
+      {later : DueHere} (at : ℕ) → Follows s at (single share) later → AwaitsDue s at (at-most-one share later)
+      → Goes (λ next _. AwaitsDue s next later) (Stops s) (share-part s (H-budget s 0) at)
+  unfolding share-part
+  share-part-goes at follows = optional-goes share _ at _ _ follows (λ due. share-goes s at)
 
   -- Past records of one kind: with so many before it this is due, and no more of that kind stands there.
   abbrev PastRun : Kind → (ℕ → DueHere) → ℕ → ℕ → Type 0

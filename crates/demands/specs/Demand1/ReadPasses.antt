@@ -5,25 +5,30 @@ use mathlib.Core.Bool.{Bool, true, false, cond}
 use mathlib.Core.List.{List}
 use native.Mathlib.Omega.{arith}
 use lib.Dec.{eqb}
-use Rattle.rules.specs.Fields.{H, D, P, Q, M, T, W, E, Z, kind-byte, byte, H-tasks, H-processors}
-use Rattle.rules.specs.Records.{Record, read, header-at, deadline-at, price-at, minimum-at, processor-at, window-at, task-at, minutes-at, edge-at}
-use Rattle.rules.specs.Records.{end-at}
+use Rattle.rules.specs.Fields.{H, D, K, P, Q, M, T, W, E, Z, kind-byte, byte, H-tasks, H-processors, H-budget}
+use Rattle.rules.specs.Records.{Record, read, header-at, deadline-at, share-at, price-at, minimum-at, processor-at, window-at, task-at, minutes-at}
+use Rattle.rules.specs.Records.{edge-at, end-at}
 use Rattle.rules.specs.Workflow.{processor-kind}
 use Rattle.good.specs.Records.{record-read}
-use Rattle.demands.specs.Demand1.Wanted.{ProcessorKind, as-P, as-Q, header, deadline, processor, window, task, minutes, edge, end, kind-of, Passes}
+use Rattle.demands.specs.Demand1.Wanted.{deadline, share, ProcessorKind, as-P, as-Q, header, single, processor, window, task, minutes, edge, end}
+use Rattle.demands.specs.Demand1.Wanted.{kind-of, Passes}
 use Rattle.demands.specs.Demand1.Goes.{goes-on}
 use Rattle.demands.specs.Demand1.DueAt.{only-due}
-use Rattle.demands.specs.Demand1.RecordGoes.{header-goes, deadline-goes, price-goes, minimum-goes, window-goes, task-goes, minutes-goes, edge-goes}
-use Rattle.demands.specs.Demand1.RecordGoes.{end-goes}
+use Rattle.demands.specs.Demand1.RecordGoes.{header-goes, deadline-goes, share-goes, price-goes, minimum-goes, window-goes, task-goes, minutes-goes}
+use Rattle.demands.specs.Demand1.RecordGoes.{edge-goes, end-goes}
 
 module _ (s : List ℕ) (at : ℕ) {next : ℕ} {r : Record} where
   pub header-passes : header-at s at ≡ read next r → Passes s at header
   unfolding header-at
   header-passes e = goes-on (header-goes s at (only-due header (omega (arith, record-read s at H _ _ e .whole)))) e .passes
 
-  pub deadline-passes : deadline-at s at ≡ read next r → Passes s at deadline
+  pub deadline-passes : deadline-at s at ≡ read next r → Passes s at (single deadline)
   unfolding deadline-at
-  deadline-passes e = goes-on (deadline-goes s at (only-due deadline (omega (arith, record-read s at D _ _ e .whole)))) e .passes
+  deadline-passes e = goes-on (deadline-goes s at (only-due (single deadline) (omega (arith, record-read s at D _ _ e .whole)))) e .passes
+
+  pub share-passes : share-at s (H-budget s 0) at ≡ read next r → Passes s at (single share)
+  unfolding share-at
+  share-passes e = goes-on (share-goes s at (only-due (single share) (omega (arith, record-read s at K _ _ e .whole)))) e .passes
 
   -- In the kind that stands there.
   pub processor-passes :

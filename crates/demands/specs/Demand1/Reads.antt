@@ -4,13 +4,14 @@ use mathlib.Core.Path.{_≡_}
 use mathlib.Core.List.{List}
 use lib.ListN.{length}
 use Rattle.rules.specs.Fields.{kind-byte, size, byte, H-tasks, H-processors}
-use Rattle.demands.specs.Demand1.Wanted.{ProcessorKind, Wanted, header, deadline, processor, window, task, minutes, edge, end, kind-of, Room}
-use Rattle.demands.specs.Demand1.Wanted.{NumbersDue, FieldsInRange, HasLabel, Whole, Passes}
+use Rattle.demands.specs.Demand1.Wanted.{Single, deadline, share, ProcessorKind, Wanted, header, single, processor, window, task, minutes, edge, end}
+use Rattle.demands.specs.Demand1.Wanted.{kind-of, Room, NumbersDue, FieldsInRange, HasLabel, Whole, Passes}
 
--- What is due at a place: one record, one of several, or nothing. "A `Q` may stand wherever a `P` is due."
+-- What is due at a place: one record, "at most one" of a kind and else what is due after it, one of several, or nothing. "A `Q` may stand wherever a `P` is
+-- due."
 pub data DueHere : Type 0 where
   only : Wanted → DueHere
-  deadline-or-processor : DueHere
+  at-most-one : Single → (later : DueHere) → DueHere
   either-processor : (j : ℕ) → DueHere
   window-or-task : (before : ℕ) → DueHere
   edge-or-end : (before : ℕ) → DueHere
@@ -18,19 +19,21 @@ pub data DueHere : Type 0 where
 
 pub data IsDue : DueHere → Wanted → Type 0 where
   that-one : {w : Wanted} → IsDue (only w) w
-  a-deadline : IsDue deadline-or-processor deadline
-  or-the-first-processor : {k : ProcessorKind} → IsDue deadline-or-processor (processor k 0)
+  that-single : {o : Single} {later : DueHere} → IsDue (at-most-one o later) (single o)
+  or-later : {o : Single} {later : DueHere} {w : Wanted} → IsDue later w → IsDue (at-most-one o later) w
   either-kind : {k : ProcessorKind} {j : ℕ} → IsDue (either-processor j) (processor k j)
   a-window : {before : ℕ} → IsDue (window-or-task before) (window before)
   or-the-first-task : {before : ℕ} → IsDue (window-or-task before) (task 0)
   an-edge : {before : ℕ} → IsDue (edge-or-end before) (edge before)
   or-the-end : {before : ℕ} → IsDue (edge-or-end before) end
 
--- "Order: `H`; at most one `D`; `P` or `Q` for 0 to m-1; then any number of `M` within the limit, [..]; then for each task 0 to n-1 its `T` followed
--- by `W` for processors 0 to m-1; then any number of `E` [..]; then `Z`; then nothing": what is due after the record at `at`. n and m are the header's.
+-- "Order: `H`; at most one `D`; at most one `K`; `P` or `Q` for 0 to m-1; then any number of `M` within the limit, [..]; then for each task 0 to n-1 its
+-- `T` followed by `W` for processors 0 to m-1; then any number of `E` [..]; then `Z`; then nothing": what is due after the record at `at`. n and m are the
+-- header's.
 pub data Follows (s : List ℕ) (at : ℕ) : Wanted → DueHere → Type 0 where
-  after-header : Follows s at header deadline-or-processor
-  after-deadline : Follows s at deadline (either-processor 0)
+  after-header : Follows s at header (at-most-one deadline (at-most-one share (either-processor 0)))
+  after-deadline : Follows s at (single deadline) (at-most-one share (either-processor 0))
+  after-share : Follows s at (single share) (either-processor 0)
   next-processor : {k : ProcessorKind} {j : ℕ} → suc j < H-processors s 0 → Follows s at (processor k j) (either-processor (suc j))
   first-window : {k : ProcessorKind} {j : ℕ} → suc j ≡ H-processors s 0 → Follows s at (processor k j) (window-or-task 0)
   next-window : {before : ℕ} → Follows s at (window before) (window-or-task (suc before))
@@ -63,7 +66,7 @@ pub data Fault (s : List ℕ) (due : DueHere) (at : ℕ) : ℕ → Type 0 where
   -- "a number, or an edge's place in the rising order, is not the one due; an `M` out of rising order or one that begins before the same processor's
   -- previous window ends"
   not-the-one-due : {w : Wanted} → IsDue due w → Whole s at w → Room w → (NumbersDue s at w → ⊥) → Fault s due at 3
-  -- "a field out of range, or a 513th edge; a processor's fifth window"
+  -- "a field out of range, or a 513th edge; a processor's fifth window; a nonzero budget in `H` beside a `K`, at the `K` record"
   out-of-range :
       {w : Wanted} → IsDue due w → Whole s at w → Room w → NumbersDue s at w → (FieldsInRange s at w → ⊥) → Fault s due at 4
   no-room : {w : Wanted} → IsDue due w → Whole s at w → (Room w → ⊥) → Fault s due at 4

@@ -6,13 +6,14 @@ use native.Mathlib.Omega.{arith}
 use lib.ListN.{length}
 use Rattle.rules.specs.Fields.{size}
 use Rattle.demands.specs.Demand1.Wanted.{Wanted, header, kind-of, Passes}
-use Rattle.demands.specs.Demand1.Reads.{DueHere, only, IsDue, Follows, after-header, after-deadline, next-processor, first-window, next-window}
-use Rattle.demands.specs.Demand1.Reads.{first-minutes, next-minutes, next-task, first-edge, next-edge, after-end, Comes, at-the-front, past}
+use Rattle.demands.specs.Demand1.Reads.{DueHere, only, IsDue, Follows, after-header, after-deadline, after-share, next-processor, first-window}
+use Rattle.demands.specs.Demand1.Reads.{next-window, first-minutes, next-minutes, next-task, first-edge, next-edge, after-end, Comes, at-the-front, past}
 use Rattle.demands.specs.Demand1.FaultSettled.{due-unique}
 
 follows-settled : {s : List ℕ} {at : ℕ} {w : Wanted} {next next′ : DueHere} → Follows s at w next → Follows s at w next′ → next ≡ next′
 follows-settled after-header after-header = refl
 follows-settled after-deadline after-deadline = refl
+follows-settled after-share after-share = refl
 follows-settled (next-processor l) (next-processor l′) = refl
 follows-settled (next-processor l) (first-window e) = absurd (omega arith)
 follows-settled (first-window e) (next-processor l) = absurd (omega arith)

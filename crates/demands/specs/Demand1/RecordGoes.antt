@@ -9,13 +9,13 @@ use lib.Dec.{leb}
 use Rattle.label.specs.Label.{Label}
 use Rattle.label.specs.Length.{label-length}
 use Rattle.label.specs.Laws.{label-length-is-length, told-by-length}
-use Rattle.rules.specs.Fields.{Kind, M, E, size, H-tasks, H-processors, H-budget, D-deadline, P-processor, P-price, Q-minimum, M-processor, M-begin}
-use Rattle.rules.specs.Fields.{M-end, T-task, T-label, W-task, W-processor, W-minutes, E-from, E-to, E-transfer}
-use Rattle.rules.specs.Records.{Record, header-at, deadline-at, price-checks, price-at, minimum-at, follows, above, apart, fifth}
+use Rattle.rules.specs.Fields.{Kind, M, E, size, H-tasks, H-processors, H-budget, D-deadline, K-share, P-processor, P-price, Q-minimum, M-processor}
+use Rattle.rules.specs.Fields.{M-begin, M-end, T-task, T-label, W-task, W-processor, W-minutes, E-from, E-to, E-transfer}
+use Rattle.rules.specs.Records.{Record, header-at, deadline-at, share-at, price-checks, price-at, minimum-at, follows, above, apart, fifth}
 use Rattle.rules.specs.Records.{window-ranges, window-at, task-at, minutes-at, edge-ranges, edge-at, end-at}
 use Rattle.good.specs.Good.{Between, GoodEdge, GoodWindow, Apart}
-use Rattle.demands.specs.Demand1.Wanted.{ProcessorKind, as-P, as-Q, Wanted, header, deadline, processor, window, task, minutes, edge, end}
-use Rattle.demands.specs.Demand1.Wanted.{kind-of, After, IsAbove, IsFifth, NumbersDue, FieldsInRange, Whole, Passes}
+use Rattle.demands.specs.Demand1.Wanted.{deadline, share, ProcessorKind, as-P, as-Q, Wanted, header, single, processor, window, task, minutes, edge}
+use Rattle.demands.specs.Demand1.Wanted.{end, kind-of, After, IsAbove, IsFifth, NumbersDue, FieldsInRange, Whole, Passes}
 use Rattle.demands.specs.Demand1.Reads.{DueHere, not-the-one-due, out-of-range, no-room, bad-label}
 use Rattle.demands.specs.Demand1.Tells.{Tells, holds, fails, told, leb-tells, ltb-tells, eqb-tells, not-tells, and-tells, or-tells, within-tells}
 use Rattle.demands.specs.Demand1.Goes.{Goes, goes-check, goes-checked}
@@ -41,13 +41,27 @@ module _ (s : List ℕ) (at : ℕ) where
       (λ not. out (λ in-range. not (in-range .1))))
       (λ not. out (λ in-range. not (in-range .0))))
 
-  pub deadline-goes : {due : DueHere} → DueAt s due at deadline → Goes (Past s at deadline) (Faulty s due at) (deadline-at s at)
+  pub deadline-goes : {due : DueHere} → DueAt s due at (single deadline) → Goes (Past s at (single deadline)) (Faulty s due at) (deadline-at s at)
   unfolding deadline-at
   deadline-goes {due} a =
-      opened-goes s at deadline a _ _ (λ whole.
+      opened-goes s at (single deadline) a _ _ (λ whole.
       goes-check (within-tells 1 (D-deadline s at) 200_000) 3
       (λ in-range. goes-checked (past (record { whole = whole; room = tt; numbers = tt; in-range = in-range; label = tt })))
-      (λ not. stop s at deadline a (out-of-range (a .is-due) whole tt tt not)))
+      (λ not. stop s at (single deadline) a (out-of-range (a .is-due) whole tt tt not)))
+
+  -- Beside the budget of the header.
+  pub share-goes : {due : DueHere} → DueAt s due at (single share) → Goes (Past s at (single share)) (Faulty s due at) (share-at s (H-budget s 0) at)
+  unfolding share-at
+  share-goes {due} a =
+      opened-goes s at (single share) a _ _ (λ whole.
+      let out : (FieldsInRange s at (single share) → ⊥) → Faulty s due at 4 at = λ not.
+      stop s at (single share) a (out-of-range (a .is-due) whole tt tt not) in
+      goes-check (within-tells 0 (K-share s at) 1_000) 3
+      (λ thousandths.
+      goes-check (eqb-tells (H-budget s 0) 0) 3
+      (λ none. goes-checked (past (record { whole = whole; room = tt; numbers = tt; in-range = (thousandths, none); label = tt })))
+      (λ not. out (λ in-range. not (in-range .1))))
+      (λ not. out (λ in-range. not (in-range .0))))
 
   -- What both kinds of processor records check; then the others.
   price-checked :

@@ -1,24 +1,22 @@
 -- Every record of a request that passes reading stands at its place and passes there: so the numbers of its workflow are those of its records.
 use Prim.Native.Nat.{ℕ, _+_, _*_, _<_}
 use mathlib.Core.Path.{_≡_, subst}
-use mathlib.Core.Bool.{Bool, true, false, cond}
 use mathlib.Core.List.{List}
 use native.Mathlib.Omega.{arith}
-use lib.Dec.{eqb}
-use Rattle.rules.specs.Fields.{H, D, M, T, W, E, size, kind-byte, byte, D-deadline}
-use Rattle.rules.specs.Records.{read, deadline-at, window-at, edge-at}
-use Rattle.rules.specs.Reading.{then, no-deadline, by, deadline-part, prices-part, windows-part, task-part, tasks-part, edges-part}
+use Rattle.rules.specs.Fields.{H, D, K, M, T, W, E, size}
+use Rattle.rules.specs.Records.{read, window-at, edge-at}
+use Rattle.rules.specs.Reading.{by, thousandths, deadline-part, share-part, prices-part, windows-part, task-part, tasks-part, edges-part}
 use Rattle.rules.specs.Reading.{Request, read-request}
 use Rattle.rules.specs.Workflow.{processor-place, window-place, task-place, minutes-place, edge-place, read-in}
 use Rattle.good.specs.Reading.{then-read, by-stride, each-part}
 use Rattle.good.specs.Kinds.{task-read}
 use Rattle.good.specs.Processors.{processors-walk}
-use Rattle.good.specs.Parts.{minutes-steps, task-steps}
+use Rattle.good.specs.Parts.{minutes-steps, task-steps, optional-cases}
 use Rattle.good.specs.Runs.{run-each, window-steps, edge-steps, edges-read}
-use Rattle.demands.specs.Demand1.Wanted.{ProcessorKind, header, deadline, processor, window, task, minutes, edge, end, kind-of, Passes}
-use Rattle.demands.specs.Demand1.PartsRead.{PartsRead, parts-were-read}
-use Rattle.demands.specs.Demand1.ReadPasses.{header-passes, deadline-passes, processor-passes, window-passes, task-passes, minutes-passes}
-use Rattle.demands.specs.Demand1.ReadPasses.{edge-passes, end-passes}
+use Rattle.demands.specs.Demand1.Wanted.{deadline, share, ProcessorKind, header, single, processor, window, task, minutes, edge, end, kind-of, Passes}
+use Rattle.demands.specs.Demand1.PartsRead.{share-place, PartsRead, parts-were-read}
+use Rattle.demands.specs.Demand1.ReadPasses.{header-passes, deadline-passes, share-passes, processor-passes, window-passes, task-passes}
+use Rattle.demands.specs.Demand1.ReadPasses.{minutes-passes, edge-passes, end-passes}
 
 -- The record of processor j, in the kind that it was read in.
 abbrev pub ProcessorPasses : List ℕ → Request → ℕ → Type 0
@@ -26,7 +24,8 @@ ProcessorPasses s r j = (k : ProcessorKind) × (read-in s r j ≡ kind-of (proce
 
 pub record RecordsPass (s : List ℕ) (r : Request) : Type 0 where
   pub header : Passes s 0 header
-  pub deadline : (d : ℕ) → r .deadline ≡ by d → Passes s (size H) deadline
+  pub deadline : (d : ℕ) → r .deadline ≡ by d → Passes s (size H) (single deadline)
+  pub share : (k : ℕ) → r .share ≡ thousandths k → Passes s (share-place (r .deadline)) (single share)
   pub processors : (j : ℕ) → j < r .processors → ProcessorPasses s r j
   pub windows : (e : ℕ) → e < r .windows → Passes s (window-place r e) (window e)
   pub tasks : (i : ℕ) → i < r .tasks → Passes s (task-place r i) (task i)
@@ -64,17 +63,20 @@ module _ (s : List ℕ) (r : Request) (parts : PartsRead s r) where
       let (after′, was′, there) = each-part (by-stride (size W) (minutes-steps s i) place) (r .processors) rest j m in
       subst (λ at. Passes s at (minutes i j)) (omega arith) (minutes-passes s _ i j there)
 
-  deadline-stands-there : (d : ℕ) → r .deadline ≡ by d → Passes s (size H) deadline
+  deadline-stands-there : (d : ℕ) → r .deadline ≡ by d → Passes s (size H) (single deadline)
   unfolding deadline-part
-  deadline-stands-there d is = go (eqb (byte s (size H)) (kind-byte D)) (parts .deadline-read)
-    where
-      go :
-          (t : Bool)
-          → cond t (then (deadline-at s (size H)) (λ next _. read next (by (D-deadline s (size H))))) (read (size H) no-deadline)
-          ≡ read (r .prices-at) (r .deadline)
-          → Passes s (size H) deadline
-      go true p = let (place, was, here, done) = then-read (deadline-at s (size H)) _ p in deadline-passes s (size H) here
-      go false p = let z : _≡_ {A = ℕ} 0 1 = cc in absurd (omega arith)
+  deadline-stands-there =
+      optional-cases s D _ (size H) _ _ (λ next d. (x : ℕ) → d ≡ by x → Passes s (size H) (single deadline))
+      (λ next was kind e x is. deadline-passes s (size H) e)
+      (λ other x is. let z : _≡_ {A = ℕ} 0 1 = cc in absurd (omega arith)) (parts .deadline-read)
+
+  share-stands-there : (k : ℕ) → r .share ≡ thousandths k → Passes s (share-place (r .deadline)) (single share)
+  unfolding share-part
+  share-stands-there =
+      let at : ℕ = share-place (r .deadline) in
+      optional-cases s K _ at _ _ (λ next k. (x : ℕ) → k ≡ thousandths x → Passes s at (single share))
+      (λ next was kind e x is. share-passes s at e)
+      (λ other x is. let z : _≡_ {A = ℕ} 0 1 = cc in absurd (omega arith)) (parts .share-read)
 
   window-stands : (e : ℕ) → e < r .windows → Passes s (window-place r e) (window e)
   unfolding windows-part window-place
@@ -104,6 +106,7 @@ read-records-pass s {r = r} e =
     record {
       header = header-passes s 0 header-there;
       deadline = deadline-stands-there s r parts;
+      share = share-stands-there s r parts;
       processors = processor-stands s r parts;
       windows = window-stands s r parts;
       tasks = task-stands s r parts;

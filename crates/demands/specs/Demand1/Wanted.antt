@@ -5,9 +5,13 @@ use mathlib.Core.List.{List}
 use mathlib.Core.Logic.{_⊎_}
 use lib.ListN.{length}
 use Rattle.label.specs.Label.{Label}
-use Rattle.rules.specs.Fields.{Kind, H, D, P, Q, M, T, W, E, Z, kind-byte, size, byte, H-tasks, H-processors, H-budget, D-deadline, P-processor}
-use Rattle.rules.specs.Fields.{P-price, Q-minimum, M-processor, M-begin, T-task, T-label, W-task, W-processor, W-minutes, E-from, E-to}
+use Rattle.rules.specs.Fields.{Kind, H, D, K, P, Q, M, T, W, E, Z, kind-byte, size, byte, H-tasks, H-processors, H-budget, D-deadline, K-share}
+use Rattle.rules.specs.Fields.{P-processor, P-price, Q-minimum, M-processor, M-begin, T-task, T-label, W-task, W-processor, W-minutes, E-from, E-to}
 use Rattle.good.specs.Good.{Between, GoodEdge, GoodWindow, Apart}
+
+-- The records of which "at most one" may stand: a `D`, and a `K`.
+pub data Single : Type 0 where
+  deadline share : Single
 
 -- The two kinds of processor records.
 pub data ProcessorKind : Type 0 where
@@ -16,7 +20,7 @@ pub data ProcessorKind : Type 0 where
 -- A record as it may be due: of one kind, with its number, its two numbers, or how many of its kind stand right before it.
 pub data Wanted : Type 0 where
   header : Wanted
-  deadline : Wanted
+  single : (o : Single) → Wanted
   processor : (k : ProcessorKind) (j : ℕ) → Wanted
   task : (i : ℕ) → Wanted
   minutes : (i j : ℕ) → Wanted
@@ -26,7 +30,8 @@ pub data Wanted : Type 0 where
 
 abbrev pub kind-of : Wanted → Kind
 kind-of header = H
-kind-of deadline = D
+kind-of (single deadline) = D
+kind-of (single share) = K
 kind-of (processor as-P j) = P
 kind-of (processor as-Q j) = Q
 kind-of (task i) = T
@@ -39,7 +44,7 @@ kind-of end = Z
 abbrev pub Room : Wanted → Type 0
 Room (edge before) = before < 512
 Room header = Unit {0}
-Room deadline = Unit {0}
+Room (single o) = Unit {0}
 Room (processor k j) = Unit {0}
 Room (window before) = Unit {0}
 Room (task i) = Unit {0}
@@ -64,7 +69,7 @@ NumbersDue s at (minutes i j) = (W-task s at ≡ i) × (W-processor s at ≡ j)
 NumbersDue s at (edge before) = After E (IsAbove (E-from s) (E-to s)) at before
 NumbersDue s at (window before) = After M (IsAbove (M-processor s) (M-begin s)) at before × After M (Apart s) at before
 NumbersDue s at header = Unit {0}
-NumbersDue s at deadline = Unit {0}
+NumbersDue s at (single o) = Unit {0}
 NumbersDue s at end = Unit {0}
 
 -- "a processor's fifth window": windows rise by processor, so the four before it are all of its processor where the first of them is
@@ -72,11 +77,13 @@ NumbersDue s at end = Unit {0}
 abbrev pub IsFifth : List ℕ → (at before : ℕ) → Type 0
 IsFifth s at before = (4 ≤ before) × (M-processor s (at - 4 * size M) ≡ M-processor s at)
 
--- "Ranges: n 1..64, m 1..16, budget 0..20,000,000, deadline 1..200,000, price 0..100, minimum 0..10,000, a window's processor below m, its begin below its
--- end, its end at most 20,000, at most four windows of a processor, minutes 0..2,000, transfer 0..1,000, edge ends below n and unequal".
+-- "Ranges: n 1..64, m 1..16, budget 0..20,000,000, deadline 1..200,000, share 0..1,000, and beside a `K` a budget of 0 in `H`, price 0..100, minimum
+-- 0..10,000, a window's processor below m, its begin below its end, its end at most 20,000, at most four windows of a processor, minutes 0..2,000, transfer
+-- 0..1,000, edge ends below n and unequal".
 abbrev pub FieldsInRange : List ℕ → ℕ → Wanted → Type 0
 FieldsInRange s at header = Between 1 (H-tasks s at) 64 × Between 1 (H-processors s at) 16 × Between 0 (H-budget s at) 20_000_000
-FieldsInRange s at deadline = Between 1 (D-deadline s at) 200_000
+FieldsInRange s at (single deadline) = Between 1 (D-deadline s at) 200_000
+FieldsInRange s at (single share) = Between 0 (K-share s at) 1_000 × (H-budget s 0 ≡ 0)
 FieldsInRange s at (processor as-P j) = Between 0 (P-price s at) 100
 FieldsInRange s at (processor as-Q j) = Between 0 (P-price s at) 100 × Between 0 (Q-minimum s at) 10_000
 FieldsInRange s at (window before) = GoodWindow s (H-processors s 0) at × (IsFifth s at before → ⊥)
@@ -89,7 +96,7 @@ FieldsInRange s at end = Unit {0}
 abbrev pub HasLabel : List ℕ → ℕ → Wanted → Type 0
 HasLabel s at (task i) = (len : ℕ) × Label s (T-label at) len
 HasLabel s at header = Unit {0}
-HasLabel s at deadline = Unit {0}
+HasLabel s at (single o) = Unit {0}
 HasLabel s at (processor k j) = Unit {0}
 HasLabel s at (window before) = Unit {0}
 HasLabel s at (minutes i j) = Unit {0}
