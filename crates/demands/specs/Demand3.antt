@@ -1,6 +1,6 @@
 -- Demand 3: two requests that differ only in their units get the same machines or the same refusal. Stated of what the caller gets, in lent rows and in
--- four buffers. Below: two requests that it speaks of (`SampleMultiplied`); why a and b are at least 1 (`ByZero`), why the mean is not rounded
--- (`RoundedMean`), and that the 1 for a range of 0 is no reason (`StandIns`). The other files are what it rests on.
+-- four buffers, of each of the three methods. Below: two requests that it speaks of (`SampleMultiplied`); why a and b are at least 1 (`ByZero`), why a `K` between
+-- 1 and 999 stands outside (`ShareBetween`), why the mean is not rounded (`RoundedMean`), and that the 1 for a range of 0 is no reason (`StandIns`). The other files are what it rests on.
 pub mod ScoreMultiplied
 pub mod ZeroRanges
 pub mod HBCSMultiplied
@@ -13,6 +13,7 @@ pub mod SampleMultiplied
 pub mod StandIns
 pub mod RoundedMean
 pub mod ByZero
+pub mod ShareBetween
 use mathlib.Core.Path.{_≡_, sym, ap, ap₂, _∙_}
 use Prim.Native.Nat.{ℕ, _*_, _<_, _≤_}
 use mathlib.Core.List.{List, map}
@@ -25,11 +26,12 @@ use Rattle.rules.specs.Records.{read}
 use Rattle.rules.specs.Reading.{Request, read-request}
 use Rattle.rules.specs.Workflow.{Workflow, workflow}
 use Rattle.rules.specs.Rows.{Row}
-use Rattle.rules.specs.Method.{HBCS}
-use Rattle.rules.specs.Answer.{outcome-by, outcome, planned, refused, answer-of, answer, written, rows-after}
-use Rattle.rules.specs.Buffers.{Buffers, rows-lent, row-in, buffers-written, buffers-after}
+use Rattle.rules.specs.Method.{Name, by-HBCS, by-cheapest, by-HEFT}
+use Rattle.rules.specs.Budget.{unbound, held-to, workflow-for}
+use Rattle.rules.specs.Answer.{outcome-by, outcome-asked, planned, refused, answer-of, answer-asked, answer, written, rows-asked}
+use Rattle.rules.specs.Buffers.{Buffers, rows-lent, row-in, buffers-written, buffers-asked}
 use Rattle.rules.specs.Multiplied.{multiplied-deadline, multiplied-interval, multiplied, multiplied-row, multiplied-place, multiplied-answer}
-use Rattle.demands.specs.Demand3.HBCSMultiplied.{HBCS-keeps-choices}
+use Rattle.demands.specs.Demand3.BudgetMultiplied.{ExactShare, held-to-multiplied}
 use Rattle.demands.specs.Demand3.AnswerMultiplied.{multiplied-outcome, outcome-by-multiplied, answer-of-multiplied, written-multiplied, row-in-multiplied}
 use Rattle.good.specs.ReadIsGood.{read-is-good}
 use Rattle.good.specs.RangeLaws.{no-windows-beyond}
@@ -52,29 +54,31 @@ pub record MultipliedBy (a b : ℕ) (W W′ : Workflow) : Type 0 where
   pub to : (e : ℕ) → e < W .edges → W′ .to e ≡ W .to e
   pub transfer : (e : ℕ) → e < W .edges → W′ .transfer e ≡ a * W .transfer e
 
+-- The shares of two requests: the same, and one at which nothing is rounded. They count for HBCS alone: "asked for alone, [..] a `K` is read but sets nothing".
+abbrev pub SharesBy : Name → Request → Request → Type 0
+SharesBy by-HBCS r r′ = (r′ .share ≡ r .share) × ExactShare (r .share)
+SharesBy by-cheapest r r′ = Unit {0}
+SharesBy by-HEFT r r′ = Unit {0}
+
 -- What the second request gets, where the first has these rows lent and the second those: the answer is the first's with the length a times, cost and
 -- remainder a times b times, or the same refusal; and in a plan the rows have the same machines, starts and finishes a times, costs a times b times.
-pub record SamePlan (a b : ℕ) (s t : List ℕ) (lent lent′ : List Row) : Type 0 where
-  pub answers : answer t (length lent′) ≡ multiplied-answer a b (answer s (length lent))
-  pub rows : (n l c left : ℕ) → answer s (length lent) ≡ planned n l c left →
-      take n (rows-after t lent′) ≡ map (multiplied-row a b) (take n (rows-after s lent))
+pub record SamePlan (M : Name) (a b : ℕ) (s t : List ℕ) (lent lent′ : List Row) : Type 0 where
+  pub answers : answer-asked M t (length lent′) ≡ multiplied-answer a b (answer-asked M s (length lent))
+  pub rows : (n l c left : ℕ) → answer-asked M s (length lent) ≡ planned n l c left →
+      take n (rows-asked M t lent′) ≡ map (multiplied-row a b) (take n (rows-asked M s lent))
 
 -- The same of four buffers and four others: row i stands in the numbers at i.
-pub record SamePlanInBuffers (a b : ℕ) (s t : List ℕ) (lent lent′ : Buffers) : Type 0 where
-  pub answers : answer t (rows-lent lent′) ≡ multiplied-answer a b (answer s (rows-lent lent))
-  pub rows : (n l c left : ℕ) → answer s (rows-lent lent) ≡ planned n l c left → (i : ℕ) → i < n →
-      row-in (buffers-after t lent′) i ≡ multiplied-row a b (row-in (buffers-after s lent) i)
+pub record SamePlanInBuffers (M : Name) (a b : ℕ) (s t : List ℕ) (lent lent′ : Buffers) : Type 0 where
+  pub answers : answer-asked M t (rows-lent lent′) ≡ multiplied-answer a b (answer-asked M s (rows-lent lent))
+  pub rows : (n l c left : ℕ) → answer-asked M s (rows-lent lent) ≡ planned n l c left → (i : ℕ) → i < n →
+      row-in (buffers-asked M t lent′) i ≡ multiplied-row a b (row-in (buffers-asked M s lent) i)
 
--- The outcome of the second is the first's, multiplied.
-outcome-multiplied :
-    (a b : ℕ) → 1 ≤ a → 1 ≤ b → (s t : List ℕ) {end end′ : ℕ} {r r′ : Request} → read-request s ≡ read end r → read-request t ≡ read end′ r′
-    → MultipliedBy a b (workflow s r) (workflow t r′) → {lent lent′ : ℕ} → lent′ ≡ lent → outcome t lent′ ≡ multiplied-outcome a b (outcome s lent)
+-- The workflow of the second is the first's, multiplied.
+workflows-multiplied :
+    (a b : ℕ) (s t : List ℕ) {end end′ : ℕ} {r r′ : Request} → read-request s ≡ read end r → read-request t ≡ read end′ r′
+    → MultipliedBy a b (workflow s r) (workflow t r′) → workflow t r′ ≡ multiplied a b (workflow s r)
 unfolding multiplied workflow
-outcome-multiplied a b pa pb s t {r = r} {r′ = r′} good good′ by {lent} {lent′} lengths =
-    outcome-of-good t good′ lent′
-    ∙ ap₂ (outcome-by HBCS) workflows lengths
-    ∙ outcome-by-multiplied a b pa (workflow s r) pb HBCS HBCS-keeps-choices lent
-    ∙ ap (multiplied-outcome a b) (sym (outcome-of-good s good lent))
+workflows-multiplied a b s t {r = r} {r′ = r′} good good′ by = workflows
   where
     W-ends : ZeroBeyond (workflow s r)
     W-ends = workflow-zero-beyond s r
@@ -107,29 +111,51 @@ outcome-multiplied a b pa pb s t {r = r} {r′ = r′} good good′ by {lent} {l
           transfer = λ e. same-everywhere (by .edges) (W′-ends .transfer) (ends-multiplied a (W-ends .transfer)) (by .transfer) e z;
         }
 
-module _ (a b : ℕ) (pa : 1 ≤ a) (pb : 1 ≤ b) (s t : List ℕ) {end end′ : ℕ} {r r′ : Request}
+-- And so is what is in force.
+in-force-multiplied :
+    (M : Name) (a b : ℕ) → 1 ≤ a → 1 ≤ b → (s t : List ℕ) (r r′ : Request) → workflow t r′ ≡ multiplied a b (workflow s r) → SharesBy M r r′
+    → workflow-for M t r′ ≡ multiplied a b (workflow-for M s r)
+in-force-multiplied by-HBCS a b pa pb s t r r′ workflows (same, exact) =
+    ap₂ (held-to by-HBCS) same workflows ∙ held-to-multiplied a b pa pb (workflow s r) by-HBCS (r .share) exact
+in-force-multiplied by-cheapest a b pa pb s t r r′ workflows shares =
+    unfold held-to in ap unbound workflows ∙ held-to-multiplied a b pa pb (workflow s r) by-cheapest (r .share) tt
+in-force-multiplied by-HEFT a b pa pb s t r r′ workflows shares =
+    unfold held-to in ap unbound workflows ∙ held-to-multiplied a b pa pb (workflow s r) by-HEFT (r .share) tt
+
+-- The outcome of the second is the first's, multiplied.
+outcome-multiplied :
+    (M : Name) (a b : ℕ) → 1 ≤ a → 1 ≤ b → (s t : List ℕ) {end end′ : ℕ} {r r′ : Request} → read-request s ≡ read end r → read-request t ≡ read end′ r′
+    → MultipliedBy a b (workflow s r) (workflow t r′) → SharesBy M r r′ → {lent lent′ : ℕ} → lent′ ≡ lent
+    → outcome-asked M t lent′ ≡ multiplied-outcome a b (outcome-asked M s lent)
+outcome-multiplied M a b pa pb s t {r = r} {r′ = r′} good good′ by shares {lent} {lent′} lengths =
+    outcome-of-good M t good′ lent′
+    ∙ ap₂ (outcome-by M) (in-force-multiplied M a b pa pb s t r r′ (workflows-multiplied a b s t good good′ by) shares) lengths
+    ∙ outcome-by-multiplied a b pa (workflow-for M s r) pb M lent
+    ∙ ap (multiplied-outcome a b) (sym (outcome-of-good M s good lent))
+
+module _ (M : Name) (a b : ℕ) (pa : 1 ≤ a) (pb : 1 ≤ b) (s t : List ℕ) {end end′ : ℕ} {r r′ : Request}
     (good : read-request s ≡ read end r) (good′ : read-request t ≡ read end′ r′)
-    (by : MultipliedBy a b (workflow s r) (workflow t r′)) where
+    (by : MultipliedBy a b (workflow s r) (workflow t r′)) (shares : SharesBy M r r′) where
   -- "If both pass reading and are lent the same number of rows, they get the same machines or the same refusal number".
-  pub multiplied-requests : (lent lent′ : List Row) → length lent′ ≡ length lent → SamePlan a b s t lent lent′
-  unfolding answer rows-after
+  pub multiplied-requests : (lent lent′ : List Row) → length lent′ ≡ length lent → SamePlan M a b s t lent lent′
+  unfolding answer-asked rows-asked
   multiplied-requests lent lent′ lengths =
-      let outcomes = outcome-multiplied a b pa pb s t good good′ by lengths in
+      let outcomes = outcome-multiplied M a b pa pb s t good good′ by shares lengths in
       record {
-        answers = ap answer-of outcomes ∙ answer-of-multiplied a b pa (outcome s (length lent));
+        answers = ap answer-of outcomes ∙ answer-of-multiplied a b pa (outcome-asked M s (length lent));
         rows = λ n l c left e.
-            ap (λ o. take n (written o lent′)) outcomes ∙ written-multiplied a b (outcome s (length lent)) lent lent′ n l c left e;
+            ap (λ o. take n (written o lent′)) outcomes ∙ written-multiplied a b (outcome-asked M s (length lent)) lent lent′ n l c left e;
       }
 
-  pub multiplied-requests-in-buffers : (lent lent′ : Buffers) → rows-lent lent′ ≡ rows-lent lent → SamePlanInBuffers a b s t lent lent′
-  unfolding answer buffers-after
+  pub multiplied-requests-in-buffers : (lent lent′ : Buffers) → rows-lent lent′ ≡ rows-lent lent → SamePlanInBuffers M a b s t lent lent′
+  unfolding answer-asked buffers-asked
   multiplied-requests-in-buffers lent lent′ lengths =
-      let outcomes = outcome-multiplied a b pa pb s t good good′ by lengths in
+      let outcomes = outcome-multiplied M a b pa pb s t good good′ by shares lengths in
       record {
-        answers = ap answer-of outcomes ∙ answer-of-multiplied a b pa (outcome s (rows-lent lent));
+        answers = ap answer-of outcomes ∙ answer-of-multiplied a b pa (outcome-asked M s (rows-lent lent));
         rows = λ n l c left e i h.
             ap (λ o. row-in (buffers-written o lent′) i) outcomes
-            ∙ row-in-multiplied a b (outcome s (rows-lent lent)) lent lent′ n l c left e i h;
+            ∙ row-in-multiplied a b (outcome-asked M s (rows-lent lent)) lent lent′ n l c left e i h;
       }
 
 -- Times that were counted in fives of minutes become minutes, and prices 20 times what they were: then the budget is 100 times what it was.
@@ -138,7 +164,7 @@ budget-a-hundred-times by = by .budget
 
 -- The same plan, with the numbers spelt out.
 pub record InMinutes (s t : List ℕ) (lent lent′ : List Row) : Type 0 where
-  pub same-plan : SamePlan 5 20 s t lent lent′
+  pub same-plan : SamePlan by-HBCS 5 20 s t lent lent′
   pub plan : (n l c left : ℕ) → answer s (length lent) ≡ planned n l c left → answer t (length lent′) ≡ planned n (5 * l) (100 * c) (100 * left)
   pub too-dear : (place : ℕ) → answer s (length lent) ≡ refused 9 place → answer t (length lent′) ≡ refused 9 (100 * place)
   pub too-long : (place : ℕ) → answer s (length lent) ≡ refused 11 place → answer t (length lent′) ≡ refused 11 (5 * place)
@@ -148,10 +174,11 @@ pub record InMinutes (s t : List ℕ) (lent lent′ : List Row) : Type 0 where
 
 pub from-five-minutes-to-minutes :
     (s t : List ℕ) {end end′ : ℕ} {r r′ : Request} → read-request s ≡ read end r → read-request t ≡ read end′ r′
-    → MultipliedBy 5 20 (workflow s r) (workflow t r′) → (lent lent′ : List Row) → length lent′ ≡ length lent → InMinutes s t lent lent′
+    → MultipliedBy 5 20 (workflow s r) (workflow t r′) → SharesBy by-HBCS r r′ → (lent lent′ : List Row) → length lent′ ≡ length lent
+    → InMinutes s t lent lent′
 unfolding multiplied-answer multiplied-place
-from-five-minutes-to-minutes s t good good′ by lent lent′ lengths =
-    let same = multiplied-requests 5 20 (omega arith) (omega arith) s t good good′ by lent lent′ lengths in
+from-five-minutes-to-minutes s t good good′ by shares lent lent′ lengths =
+    let same = multiplied-requests by-HBCS 5 20 (omega arith) (omega arith) s t good good′ by shares lent lent′ lengths in
     record {
       same-plan = same;
       plan = λ n l c left e. same .answers ∙ ap (multiplied-answer 5 20) e;

@@ -1,17 +1,18 @@
 -- What demand 2 says is due settles the outcome: whatever is due for a good workflow is what the definitions give, so two that are due are equal.
 use Prim.Native.Nat.{ℕ, _≤_, _<_}
-use mathlib.Core.Path.{_≡_, refl, sym, _∙_}
+use mathlib.Core.Path.{_≡_, refl, sym, ap, _∙_}
 use mathlib.Core.Bool.{true, false}
 use mathlib.Core.List.{List}
 use native.Mathlib.Omega.{arith}
+use lib.Dec.{ltb}
 use borrow.Author.Tests.{lt-ltb, le-ltb}
 use Rattle.rules.specs.Workflow.{Workflow}
 use Rattle.rules.specs.Cycle.{Leads, cyclic, lowest-in-cycle}
 use Rattle.rules.specs.Ranks.{cheapest-total}
-use Rattle.rules.specs.Rows.{Placed, row-of, spent}
+use Rattle.rules.specs.Rows.{Placed, row-of, spent, length-of}
 use Rattle.rules.specs.Method.{Name, by-HBCS, by-cheapest, by-HEFT, method}
 use Rattle.rules.specs.Placing.{place}
-use Rattle.rules.specs.Answer.{Outcome, plan, refuse, placed-outcome, checked, later-checks, outcome-of, outcome-by}
+use Rattle.rules.specs.Answer.{Outcome, plan, refusal, refuse, too-late, placed-outcome, checked, later-checks, outcome-of, outcome-by}
 use Rattle.laws.specs.Tests.{false-unless-true}
 use Rattle.laws.specs.Folds.{sum-same}
 use Rattle.laws.specs.Cycles.{cyclic-iff, lowest-in-cycle-lowest}
@@ -51,6 +52,16 @@ module _ (W : Workflow) (good : GoodWorkflow W) where
   kept-to by-cheapest rows p keeps = refl
   kept-to by-HEFT rows p keeps = refl
 
+  too-dear-told : (rows : List Placed) → ltb (W .budget) (cheapest-total W) ≡ true → later-checks by-HBCS W rows ≡ refusal 9 (cheapest-total W)
+  unfolding later-checks refuse
+  too-dear-told rows above = rw above
+
+  too-late-told :
+      (rows : List Placed) → ltb (W .budget) (cheapest-total W) ≡ false → too-late (W .deadline) (length-of rows) ≡ true
+      → later-checks by-HBCS W rows ≡ refusal 11 (length-of rows)
+  unfolding later-checks placed-outcome refuse
+  too-late-told rows within late = rw (within, late)
+
   module _ (lent : ℕ) where
     past-checks : (M : Name) → Placeable W lent → outcome-by M W lent ≡ later-checks M W (place (method M) W (W .tasks))
     unfolding outcome-by outcome-of checked refuse
@@ -70,18 +81,18 @@ module _ (W : Workflow) (good : GoodWorkflow W) where
         let (on′, each′, costs′) = cheapest-attained W (good .processors) in
         let above : W .budget < cheapest-total W = omega (arith, dear .above on′ each′) in
         let same : total ≡ cheapest-total W = omega (arith, dear .at-least on′ each′, cheapest-at-most-any W on each) in
-        unfold later-checks in
-        sym (past-checks by-HBCS placeable ∙ rw (lt-ltb (W .budget) (cheapest-total W) above, same))
+        sym (past-checks by-HBCS placeable ∙ too-dear-told (place (method by-HBCS) W (W .tasks)) (lt-ltb (W .budget) (cheapest-total W) above) ∙ ap (refusal 9) (sym same))
     due-is-outcome (eleven {rows = rows} placeable p within late) =
         let fits : cheapest-total W ≤ W .budget = omega (arith, costs-at-least p) in
-        unfold later-checks placed-outcome in
         sym
         (past-checks by-HBCS placeable
-        ∙ rw (place-settled by-HBCS (placeable .acyclic) fits rows p, le-ltb (W .budget) (cheapest-total W) fits, late))
+        ∙ ap (later-checks by-HBCS W) (place-settled by-HBCS (placeable .acyclic) fits rows p)
+        ∙ too-late-told rows (le-ltb (W .budget) (cheapest-total W) fits) late)
     due-is-outcome (planned {M = M} {rows = rows} placeable p keeps) =
         sym
         (past-checks M placeable
-        ∙ rw (place-settled M (placeable .acyclic) (fits-of M rows p keeps) rows p) (kept-to M rows p keeps))
+        ∙ ap (later-checks M W) (place-settled M (placeable .acyclic) (fits-of M rows p keeps) rows p)
+        ∙ kept-to M rows p keeps)
 
     pub due-settled : {M : Name} {outcome outcome′ : Outcome} → Due W lent M outcome → Due W lent M outcome′ → outcome ≡ outcome′
     due-settled due due′ = due-is-outcome due ∙ sym (due-is-outcome due′)

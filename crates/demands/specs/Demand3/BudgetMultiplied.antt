@@ -1,18 +1,18 @@
 -- What is in force for a multiplied workflow: the budget of `H`, and the one that a `K` of 0 or of 1,000 sets, are a times b times; without a budget and a deadline
 -- there is none in either.
 use Prim.Native.Nat.{ℕ, _+_, _*_, _-_, _/_, _≤_}
-use mathlib.Core.Path.{_≡_, refl, sym, ap, _∙_}
+use mathlib.Core.Path.{_≡_, refl, sym, ap, ap₂, _∙_}
 use native.Mathlib.Nat.{mul-zero, mul-add, mul-sub}
 use native.Mathlib.Omega.{arith}
 use Rattle.rules.specs.Reading.{Share, no-share, thousandths}
 use Rattle.rules.specs.Workflow.{Workflow}
 use Rattle.rules.specs.Ranks.{cheapest-total}
 use Rattle.rules.specs.Rows.{spent}
-use Rattle.rules.specs.Method.{HEFT, Name, by-HBCS, by-cheapest, by-HEFT, method}
+use Rattle.rules.specs.Method.{HEFT, Name, by-HBCS, by-cheapest, by-HEFT}
 use Rattle.rules.specs.Placing.{place}
 use Rattle.rules.specs.Budget.{in-force, unbound, cost-alone, budget-between, budget-of, held-to}
 use Rattle.rules.specs.Multiplied.{multiplied, multiplied-deadline}
-use Rattle.demands.specs.Demand3.HBCSMultiplied.{method-keeps-choices}
+use Rattle.demands.specs.Demand3.HBCSMultiplied.{HEFT-keeps-choices}
 use Rattle.demands.specs.Demand3.CostsMultiplied.{cheapest-total-multiplied}
 use Rattle.demands.specs.Demand3.RowsMultiplied.{spent-multiplied}
 use Rattle.demands.specs.Demand3.PlacingMultiplied.{place-multiplied}
@@ -53,20 +53,22 @@ module _ (a b : ℕ) (pa : 1 ≤ a) (pb : 1 ≤ b) (W : Workflow) where
       }
 
   HEFT-cost-multiplied : cost-alone HEFT (multiplied a b W) ≡ a * b * cost-alone HEFT W
-  unfolding cost-alone
+  unfolding cost-alone multiplied
   HEFT-cost-multiplied =
-      ap (λ V. spent (place HEFT V (W .tasks))) unbound-multiplied
-      ∙ ap spent (unfold method in place-multiplied a b pa (unbound W) pb HEFT (method-keeps-choices by-HEFT) (W .tasks))
+      ap (λ X. spent (place HEFT X (W .tasks))) unbound-multiplied
+      ∙ ap spent (place-multiplied a b pa (unbound W) pb HEFT HEFT-keeps-choices (W .tasks))
       ∙ spent-multiplied a b (place HEFT (unbound W) (W .tasks))
 
   budget-multiplied : {share : Share} → ExactShare share → budget-of share (multiplied a b W) ≡ a * b * budget-of share W
   unfolding budget-of multiplied
   budget-multiplied no-K = refl
-  budget-multiplied lowest = rw (at-0, cheapest-total-multiplied a b W)
+  budget-multiplied lowest = at-0 _ _ ∙ cheapest-total-multiplied a b W ∙ ap (λ x. a * b * x) (sym (at-0 _ _))
   budget-multiplied highest =
-      rw (at-1000, cheapest-total-multiplied a b W, HEFT-cost-multiplied)
-      (ap (λ x. a * b * cheapest-total W + x) (sym (mul-sub (a * b) (cost-alone HEFT W) (cheapest-total W)))
-      ∙ sym (mul-add (a * b) (cheapest-total W) (cost-alone HEFT W - cheapest-total W)))
+      at-1000 _ _
+      ∙ ap₂ (λ low high. low + (high - low)) (cheapest-total-multiplied a b W) HEFT-cost-multiplied
+      ∙ ap (λ x. a * b * cheapest-total W + x) (sym (mul-sub (a * b) (cost-alone HEFT W) (cheapest-total W)))
+      ∙ sym (mul-add (a * b) (cheapest-total W) (cost-alone HEFT W - cheapest-total W))
+      ∙ ap (λ x. a * b * x) (sym (at-1000 (cheapest-total W) (cost-alone HEFT W)))
 
   -- What HBCS is held to is multiplied where nothing is rounded; the two others are held to nothing.
   abbrev pub ExactBy : Name → Share → Type 0

@@ -94,8 +94,12 @@ module _ (a c : ℕ) (pa : 1 ≤ a) (pc : 1 ≤ c) (q : Question) where
 pub HBCS-keeps-choices : KeepsChoices HBCS
 HBCS-keeps-choices = HBCS-multiplied
 
+pub HEFT-keeps-choices : KeepsChoices HEFT
+unfolding HEFT
+HEFT-keeps-choices = best-multiplied
+
 pub method-keeps-choices : (M : Name) → KeepsChoices (method M)
-unfolding method HEFT
+unfolding method
 method-keeps-choices by-HBCS = HBCS-keeps-choices
 method-keeps-choices by-cheapest = cheapest-multiplied
-method-keeps-choices by-HEFT = best-multiplied
+method-keeps-choices by-HEFT = HEFT-keeps-choices

@@ -5,20 +5,21 @@ use mathlib.Core.Path.{_≡_, refl}
 use mathlib.Core.List.{List, [], _++_}
 use native.Mathlib.Omega.{arith}
 use Rattle.rules.specs.Records.{read}
-use Rattle.rules.specs.Reading.{no-deadline, Request, read-request}
+use Rattle.rules.specs.Reading.{no-deadline, no-share, Request, read-request}
 use Rattle.rules.specs.Workflow.{workflow}
 use Rattle.rules.specs.Multiplied.{multiplied-deadline, multiplied-interval}
 use Rattle.rules.specs.Cases.{P-record, Q-record, M-record, given}
 use Rattle.rules.specs.Starred.{sample, S}
 use Rattle.rules.specs.Corners.{with-processors}
 use Rattle.demands.specs.Demand3.{MultipliedBy}
+use Rattle.demands.specs.Demand3.BudgetMultiplied.{ExactShare, no-K}
 
-below-two : (P : ℕ → Type 0) → P 0 → P 1 → (i : ℕ) → i < 2 → P i
+pub below-two : (P : ℕ → Type 0) → P 0 → P 1 → (i : ℕ) → i < 2 → P i
 below-two P at-0 at-1 zero l = at-0
 below-two P at-0 at-1 (suc zero) l = at-1
 below-two P at-0 at-1 (suc (suc i)) l = absurd (omega arith)
 
-three-by-two : (P : ℕ → ℕ → Type 0) → P 0 0 → P 0 1 → P 1 0 → P 1 1 → P 2 0 → P 2 1 → (i j : ℕ) → i < 3 → j < 2 → P i j
+pub three-by-two : (P : ℕ → ℕ → Type 0) → P 0 0 → P 0 1 → P 1 0 → P 1 1 → P 2 0 → P 2 1 → (i j : ℕ) → i < 3 → j < 2 → P i j
 three-by-two P of-0 of-0′ of-1 of-1′ of-2 of-2′ zero j l m = below-two (P 0) of-0 of-0′ j m
 three-by-two P of-0 of-0′ of-1 of-1′ of-2 of-2′ (suc i) j l m =
     below-two (λ k. P (suc k) j) (below-two (P 1) of-1 of-1′ j m) (below-two (P 2) of-2 of-2′ j m) i (omega arith)
@@ -31,6 +32,7 @@ sampled budget =
       processors = 2;
       budget = budget;
       deadline = no-deadline;
+      share = no-share;
       prices-at = 7;
       windows-at = 13;
       windows = 0;
@@ -52,6 +54,7 @@ pub record BothGood (a b : ℕ) (s t : List ℕ) : Type 0 where
   pub good : read-request s ≡ read end r
   pub good′ : read-request t ≡ read end′ r′
   pub multiplied : MultipliedBy a b (workflow s r) (workflow t r′)
+  pub same-share : r′ .share ≡ r .share
 
 -- The sample and the sample multiplied: what is left to compute are the numbers that are multiplied.
 both-good :
@@ -87,6 +90,7 @@ both-good a b budget reads product price minimum minutes transfer =
         to = below-two _ refl refl;
         transfer = transfer;
       };
+      same-share = refl;
     }
 
 abbrev pub tripled : List ℕ
@@ -115,6 +119,7 @@ sampled-with budget windows-at =
       processors = 2;
       budget = budget;
       deadline = no-deadline;
+      share = no-share;
       prices-at = 7;
       windows-at = windows-at;
       windows = 3;
@@ -147,6 +152,7 @@ more-both-good =
         to = below-two _ refl refl;
         transfer = below-two _ refl refl;
       };
+      same-share = refl;
     }
 
 -- Prices and the budget multiplied by 0.
@@ -160,6 +166,10 @@ for-nothing-both-good =
     (three-by-two _ refl refl refl refl refl refl)
     (below-two _ refl refl)
 
+pub for-nothing-exact : ExactShare (for-nothing-both-good .r .share)
+unfolding for-nothing-both-good both-good sampled
+for-nothing-exact = no-K
+
 -- Times and the budget multiplied by 0: since a task may take no minutes, such a request passes reading.
 abbrev pub in-no-time : List ℕ
 in-no-time = by 0 1 0
@@ -170,3 +180,7 @@ in-no-time-both-good =
     both-good 0 1 0 refl refl (below-two _ refl refl) (below-two _ refl refl)
     (three-by-two _ refl refl refl refl refl refl)
     (below-two _ refl refl)
+
+pub in-no-time-exact : ExactShare (in-no-time-both-good .r .share)
+unfolding in-no-time-both-good both-good sampled
+in-no-time-exact = no-K
