@@ -1,7 +1,7 @@
 -- The leader of the processors passed, one processor after the other; the last is the choice.
 use Prim.Native.Nat.{ℕ, suc, _+_, _≤_, _<_}
 use mathlib.Core.Path.{_≡_, refl, sym, _∙_}
-use mathlib.Core.Bool.{Bool, true, false, cond, _||_}
+use mathlib.Core.Bool.{Bool, true, false, cond}
 use mathlib.Core.Logic.{⊎-elim}
 use native.Mathlib.Nat.{eq-or-lt-of-le}
 use native.Mathlib.Numerals.{add-one}
@@ -14,6 +14,7 @@ use Rattle.laws.specs.Tests.{cond-either}
 use Rattle.laws.specs.Numbers.{below-next}
 use Rattle.laws.specs.Orders.{lower-tie}
 use Rattle.laws.specs.First.{first-at-most, first-next}
+use Rattle.choosing.specs.LowestLaws.{or-false}
 use Rattle.choosing.specs.Figured.{standing}
 use Rattle.choosing.specs.Leading.{ahead-by, led-by, Stands, nobody, somebody, Leads}
 use Rattle.choosing.specs.declared.Leader.{Leader}
@@ -22,11 +23,7 @@ use Rattle.choosing.specs.declared.Leader.{Leader}
 module _ (l : Leader) (s f : ℕ) where
   pub ahead-uneven : (s ≡ l .standing → ⊥) → ltb (l .standing) s ≡ ahead-by l s f
   unfolding ahead-by
-  ahead-uneven h = rw (ne-eqb s (l .standing) h) (go (ltb (l .standing) s))
-    where
-      go : (t : Bool) → t ≡ (t || false)
-      go true = refl
-      go false = refl
+  ahead-uneven h = rw (ne-eqb s (l .standing) h) (or-false (ltb (l .standing) s))
 
   pub ahead-even : s ≡ l .standing → ltb f (l .finish) ≡ ahead-by l s f
   unfolding ahead-by
