@@ -7,11 +7,11 @@ use Rattle.rules.specs.Workflow.{Workflow}
 use Rattle.rules.specs.Ranks.{cost}
 use Rattle.rules.specs.Workflow.{Interval}
 use Rattle.rules.specs.Start.{start-on}
-use Rattle.rules.specs.Method.{Question, HBCS}
+use Rattle.rules.specs.Method.{Question, Method}
 use Rattle.good.specs.Ranges as good
 use Rattle.laws.specs.Bounds.{ready-most, asked-finish-most, total-most, budget-most}
 use Rattle.laws.specs.StartLaws.{start-at-most}
-use Rattle.laws.specs.Method.{HBCS-same, HBCS-takes-processor}
+use Rattle.laws.specs.Method.{ChoosesAmong}
 use Rattle.costs.specs.CostLaws.{cost-at-most}
 use Rattle.choosing.specs.Asked.{asked, InRange}
 use Rattle.laws.specs.Stores.{at}
@@ -64,21 +64,22 @@ module _ (W : Workflow) (range : good.InRange W) (i : ℕ) where
           RCB = rcb-most;
         }
 
-    asked-same : HBCS question ≡ HBCS (question-by W ready busy i rb rcb)
-    unfolding question-by
-    asked-same =
-        HBCS-same question _ (range .processors-in .from-low)
-        (record { processors = refl; cost = all-costs .below; finish = all-finishes .below; RB = refl; RCB = refl })
+    module _ {M : Method} (among : ChoosesAmong M) where
+      asked-same : M question ≡ M (question-by W ready busy i rb rcb)
+      unfolding question-by
+      asked-same =
+          among .alike question _ (range .processors-in .from-low)
+          (record { processors = refl; cost = all-costs .below; finish = all-finishes .below; RB = refl; RCB = refl })
 
-    -- The processor that is chosen from the arrays has the method's row.
-    pub row-on : {j : ℕ} → j ≡ HBCS question → RowOn W i j costs finishes (row-by W ready busy i HBCS rb rcb)
-    unfolding finish-by
-    row-on {j} chosen =
-        let below : j < W .processors = rw chosen (HBCS-takes-processor question (range .processors-in .from-low)) in
-        let finish = all-finishes .below j below in
-        let start : at finishes j - W .minutes i j ≡ start-by W ready busy i j = omega (arith, finish) in
-        record {
-          processor = below;
-          minutes-in-finish = omega (arith, finish);
-          row-is = rw (← asked-same, ← chosen, start, finish, all-costs .below j below);
-        }
+      -- The processor that a method takes from the arrays has the method's row.
+      pub row-on : {j : ℕ} → j ≡ M question → RowOn W i j costs finishes (row-by W ready busy i M rb rcb)
+      unfolding finish-by
+      row-on {j} chosen =
+          let below : j < W .processors = rw chosen (among .takes-processor question (range .processors-in .from-low)) in
+          let finish = all-finishes .below j below in
+          let start : at finishes j - W .minutes i j ≡ start-by W ready busy i j = omega (arith, finish) in
+          record {
+            processor = below;
+            minutes-in-finish = omega (arith, finish);
+            row-is = rw (← asked-same, ← chosen, start, finish, all-costs .below j below);
+          }

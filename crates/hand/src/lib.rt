@@ -2,14 +2,16 @@
 ghost use mathlib.Core.Path.{_≡_};
 ghost use Prim.Native.Nat.{_≤_, _<_};
 ghost use Rattle.rules.specs.Ranks.{cost};
-ghost use Rattle.rules.specs.Method.{HBCS};
+ghost use Rattle.rules.specs.Method as rules;
 ghost use Rattle.reader.specs.Meaning.{ViewOf};
 ghost use Rattle.lookup.specs.Lookup.{workflow-of};
 ghost use Rattle.laws.specs.Bounds.{ready-most, total-most, budget-most};
 ghost use Rattle.laws.specs.Stores.{at};
 ghost use Rattle.laws.specs.Filled.{AtMost, Filled};
 ghost use Rattle.busy.specs.Kept.{kept-busy, InOrder, EndBy};
+ghost use Rattle.choosing.specs.Named.{meant-method};
 ghost use Rattle.hand.specs.Hand.{finish-by, row-by};
+use choosing::Method;
 use reader::View;
 
 // The row of the task in hand.
@@ -49,6 +51,7 @@ fn finish_on_all<'a>(
 pub fn row_for<'a>(
     s: &[u8],
     v: View,
+    method: Method,
     ready: &[u64; 16],
     begins: &'a [u32; 128],
     ends: &'a [u32; 128],
@@ -62,10 +65,10 @@ pub fn row_for<'a>(
     requires { ⌜ (task < v .tasks) × AtMost ready-most (now ready) ⌝ }
     requires { ⌜ InOrder (now begins) (now ends) (now first) × EndBy ready-most (now begins) (now ends) (now first) ⌝ }
     requires { ⌜ Filled (v .processors) (cost (workflow-of (now s) v) task) (now costs) × (rb ≤ budget-most) × (rcb ≤ total-most) ⌝ }
-    ensures { λ r. ⌜ r ≡ row-by (workflow-of (now (s .entry)) v) (at (now (ready .entry))) (kept-busy (now (begins .entry)) (now (ends .entry)) (now (first .entry))) task HBCS rb rcb ⌝ }
+    ensures { λ r. ⌜ r ≡ row-by (workflow-of (now (s .entry)) v) (at (now (ready .entry))) (kept-busy (now (begins .entry)) (now (ends .entry)) (now (first .entry))) task (rules.method (meant-method method)) rb rcb ⌝ }
 {
     let finishes = finish_on_all(s, v, ready, begins, ends, first, task);
-    let j = choosing::choose(v.processors, costs, &finishes, rb, rcb);
+    let j = choosing::choose(method, v.processors, costs, &finishes, rb, rcb);
     let finish = finishes[j];
     let cost = costs[j];
     Row {

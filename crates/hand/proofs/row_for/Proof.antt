@@ -1,10 +1,12 @@
 -- The choice is that of the rules, since the arrays put the question as the rules do; its row is read off the arrays.
 use Prim.Native.Nat.{_<_}
 use Rattle.rules.specs.Workflow.{workflow}
-use Rattle.rules.specs.Method.{HBCS}
+use Rattle.rules.specs.Method.{method}
 use Rattle.lookup.specs.Lookup.{workflow-of}
 use Rattle.lookup.specs.Views.{view-in-range}
 use Rattle.laws.specs.Stores.{at}
+use Rattle.laws.specs.Method.{method-chooses-among}
+use Rattle.choosing.specs.Named.{meant-method}
 use Rattle.busy.specs.Kept.{kept-busy}
 use Rattle.hand.specs.Hand.{row-by}
 use Rattle.hand.specs.HandLaws.{RowOn, finish-at-most, asked-in-range, row-on}
@@ -19,13 +21,14 @@ chosen-row :
     → let a = c .before .before .before .before .args in
     let W = workflow-of (a .s .now) (a .v) in
     RowOn W (a .task) (c .choose .result) (a .costs .now) (c .before .before .finish-on-all .result)
-    (row-by W (at (a .ready .now)) (kept-busy (a .begins .now) (a .ends .now) (a .first .now)) (a .task) HBCS (a .rb) (a .rcb))
+    (row-by W (at (a .ready .now)) (kept-busy (a .begins .now) (a .ends .now) (a .first .now)) (a .task) (method (meant-method (a .method))) (a .rb) (a .rcb))
 unfolding workflow
 chosen-row c =
     let a = c .before .before .before .before .args in
     let pre = c .before .before .before .before .pre in
     let range = view-in-range (a .s .now) (a .v) (pre .0) in
-    row-on _ range (a .task) _ _ (a .rb) (a .rcb) (pre .1 .1 .1 .0) (c .before .before .finish-on-all .ensures) (c .choose .ensures)
+    row-on _ range (a .task) _ _ (a .rb) (a .rcb) (pre .1 .1 .1 .0) (c .before .before .finish-on-all .ensures)
+    (method-chooses-among (meant-method (a .method))) (c .choose .ensures)
 
 processor-below : (c : tie.After-choose) → c .choose .result < 16
 unfolding workflow
@@ -68,8 +71,8 @@ minutes-requires c κs =
     let pre = c .before .before .before .before .before .pre in
     (pre .0, (pre .1 .0 .0, chosen-row (c .before) .processor))
 
-sub-t23 : tie.Need-sub-t23
-sub-t23 c = omega (arith, chosen-row (c .before .before) .minutes-in-finish, c .minutes .ensures .0)
+sub-t24 : tie.Need-sub-t24
+sub-t24 c = omega (arith, chosen-row (c .before .before) .minutes-in-finish, c .minutes .ensures .0)
 
 returns : tie.Need-returns
 returns c = rw (c .minutes .ensures .0) (chosen-row (c .before .before) .row-is)
@@ -85,5 +88,5 @@ row-for-spec =
     mul-cost
     element-copy-out-cost
     minutes-requires
-    sub-t23
+    sub-t24
     returns)
