@@ -6,7 +6,7 @@ use lib.ListN.{length}
 use Rattle.rules.specs.Workflow.{Workflow}
 use Rattle.rules.specs.Ranks.{R}
 use Rattle.rules.specs.Rows.{Row, Placed, row-of, spent, length-of}
-use Rattle.rules.specs.Method.{HBCS}
+use Rattle.rules.specs.Method.{Name, method}
 use Rattle.rules.specs.Placing.{place}
 use Rattle.laws.specs.Stores.{at}
 use Rattle.placing.specs.declared.Placing.{Placing}
@@ -27,13 +27,13 @@ pub record Columns (rows : List Placed) (processors starts finishes costs : List
   pub finishes-hold : Column (λ r. r .finish) rows finishes
   pub costs-hold : Column (λ r. r .cost) rows costs
 
--- The rows of all tasks, by the rules.
-abbrev pub all-rows : Workflow → List Placed
-all-rows W = place HBCS W (W .tasks)
+-- The rows of all tasks by a method, as the rules place them.
+abbrev pub all-rows : Name → Workflow → List Placed
+all-rows M W = place (method M) W (W .tasks)
 
 -- The arrays hold these rows, and the answer tells their length, what they cost, and the budget left.
-pub record PlacedAs (W : Workflow) (processors starts finishes costs : List ℕ) (r : Placing) : Type 0 where
-  pub length-is : r .length ≡ length-of (all-rows W)
-  pub cost-is : r .cost ≡ spent (all-rows W)
-  pub left-is : r .left ≡ W .budget - spent (all-rows W)
-  pub columns : Columns (all-rows W) processors starts finishes costs
+pub record PlacedAs (M : Name) (W : Workflow) (processors starts finishes costs : List ℕ) (r : Placing) : Type 0 where
+  pub length-is : r .length ≡ length-of (all-rows M W)
+  pub cost-is : r .cost ≡ spent (all-rows M W)
+  pub left-is : r .left ≡ W .budget - spent (all-rows M W)
+  pub columns : Columns (all-rows M W) processors starts finishes costs

@@ -5,6 +5,7 @@ use mathlib.Core.List.{List}
 use lib.Seq.{ext-getD}
 use Rattle.rules.specs.Workflow.{Workflow}
 use Rattle.rules.specs.Rows.{Row, Placed}
+use Rattle.rules.specs.Method.{Name}
 use Rattle.placing.specs.declared.Placing.{Placing}
 use Rattle.placing.specs.Placed.{Column, Columns, PlacedAs}
 
@@ -24,9 +25,9 @@ columns-settled one other = (
 )
 
 pub placing-settled :
-    (W : Workflow) {p s f c p′ s′ f′ c′ : List ℕ} (a b : Placing) → PlacedAs W p s f c a → PlacedAs W p′ s′ f′ c′ b
+    (M : Name) (W : Workflow) {p s f c p′ s′ f′ c′ : List ℕ} (a b : Placing) → PlacedAs M W p s f c a → PlacedAs M W p′ s′ f′ c′ b
     → (a ≡ b) × ((p ≡ p′) × (s ≡ s′) × (f ≡ f′) × (c ≡ c′))
-placing-settled W a b one other =
+placing-settled M W a b one other =
     let lengths = one .length-is ∙ sym (other .length-is) in
     let spent = one .cost-is ∙ sym (other .cost-is) in
     let left = one .left-is ∙ sym (other .left-is) in

@@ -2,12 +2,13 @@
 use Prim.Native.Nat.{ℕ, _+_, _-_, _≤_, _<_}
 use mathlib.Core.Path.{_≡_, refl, ap, _∙_}
 use mathlib.Core.List.{List}
+use Rattle.rules.specs.Reading.{no-deadline}
 use Rattle.rules.specs.Workflow.{Workflow, workflow}
 use Rattle.rules.specs.Cycle.{Leads}
 use Rattle.rules.specs.Ranks.{cost, lowest-cost, cheapest-total, next-task}
 use Rattle.rules.specs.Start.{arrival, arrived}
 use Rattle.rules.specs.Rows.{Placed, is-placed}
-use Rattle.rules.specs.Method.{HBCS}
+use Rattle.rules.specs.Method.{Name, method}
 use Rattle.rules.specs.Placing.{RCB, place}
 use Rattle.good.specs.Ranges.{InRange}
 use Rattle.lookup.specs.Lookup.{workflow-of}
@@ -16,7 +17,8 @@ use Rattle.laws.specs.Bounds.{finish-most}
 use Rattle.laws.specs.Begun.{begun, acyclic-begun}
 use Rattle.laws.specs.Cycles.{none-leads-back}
 use Rattle.laws.specs.Stores.{at}
-use Rattle.laws.specs.Method.{HBCS-chooses-among}
+use Rattle.laws.specs.Method.{ChoosesAmong, method-chooses-among}
+use Rattle.choosing.specs.Named.{meant-method}
 use Rattle.links.specs.LinksLaws.{linked-first}
 use Rattle.successors.specs.Begins.{BeginsFrom}
 use Rattle.successors.specs.Held.{released}
@@ -31,7 +33,7 @@ use Rattle.placing.specs.Kept.{Kept}
 use Rattle.placing.specs.KeptHand.{ready-within}
 use Rattle.placing.specs.KeptLaws.{kept-first, ends-within, busy-within, rb-within, rcb-within, next-kept, next-may, rcb-less}
 use Rattle.placing.specs.KeptMore.{with-taken-up, row-within, kept-more}
-use Rattle.placing.specs.Begins.{begun-in-range, ranks-begun, held-begun, released-begun, begins-begun}
+use Rattle.placing.specs.Begins.{handed, begun-in-range, ranks-begun, held-begun, released-begun, begins-begun}
 use borrow.Author.Needs.{needs}
 use native.Mathlib.Omega.{arith}
 use Rattle.placing.proofs.place.Statement.{statement}
@@ -54,13 +56,13 @@ kept-in sits starts ends costs held begins finishes first rb spent rcb length =
     }
 
 abbrev Inv-loop : tie.InvT-loop
-Inv-loop s v prices minimums ranks edges-at cheapest clock sits₀ starts₀ ends₀ costs₀ last before held₀ begins₀ finishes₀ first₀ rb₀ spent₀ rcb₀ length₀ k₀
+Inv-loop s v M budget prices minimums ranks edges-at cheapest clock sits₀ starts₀ ends₀ costs₀ last before held₀ begins₀ finishes₀ first₀ rb₀ spent₀ rcb₀ length₀ k₀
     sits starts ends costs held begins finishes first rb spent rcb length k =
-    let W = begun (kept-by (processors-of begins₀ finishes₀ first₀)) clock (workflow-of s v) in
-    (k ≤ v .tasks) × Kept W (place HBCS W k) k (kept-in sits starts ends costs held begins finishes first rb spent rcb length)
+    let W = handed budget (processors-of begins₀ finishes₀ first₀) clock (workflow-of s v) in
+    (k ≤ v .tasks) × Kept W (place (method (meant-method M)) W k) k (kept-in sits starts ends costs held begins finishes first rb spent rcb length)
 
 abbrev μ-loop : tie.MeasureT-loop
-μ-loop s v prices minimums ranks edges-at cheapest clock sits₀ starts₀ ends₀ costs₀ last before held₀ begins₀ finishes₀ first₀ rb₀ spent₀ rcb₀ length₀ k₀
+μ-loop s v M budget prices minimums ranks edges-at cheapest clock sits₀ starts₀ ends₀ costs₀ last before held₀ begins₀ finishes₀ first₀ rb₀ spent₀ rcb₀ length₀ k₀
     sits starts ends costs held begins finishes first rb spent rcb length k =
     v .tasks - k
 
@@ -74,8 +76,8 @@ loop-holds : tie.Need-loop-holds Inv-loop μ-loop
 unfolding workflow begun cheapest-total lowest-cost cost place
 loop-holds c =
     let start = c .before .before .before .before .before .before .before .before .before in
-    let (in-order, few, ended, clock-in) = start .pre .1 .1 .1 .0 in
-    let held = held-begun _ (start .args .outset) (start .args .clock) (c .before .before .before .count-all .ensures) in
+    let (in-order, few, ended, clock-in, budget-in) = start .pre .1 .1 .1 .0 in
+    let held = held-begun (start .args .budget) (start .args .outset) (start .args .clock) _ (c .before .before .before .count-all .ensures) in
     (omega arith, kept-first _ (start .pre .1 .1 .1 .1) held (keeps-itself in-order) few refl (start .pre .1 .0 .1))
 
 next-task-requires : tie.Need-next-task-requires Inv-loop μ-loop
@@ -90,24 +92,30 @@ abbrev started : tie.After-next-task Inv-loop μ-loop → tie.Start Inv-loop μ-
 started c = c .before .before .before .before .before .before .before .before .before .before .before .before .before .before
 
 abbrev flow : tie.After-next-task Inv-loop μ-loop → Workflow
-flow c = let a = started c .args in begun (kept-by (a .outset)) (a .clock) (workflow-of (a .s .now) (a .v))
+flow c = let a = started c .args in handed (a .budget) (a .outset) (a .clock) (workflow-of (a .s .now) (a .v))
+
+abbrev asked-for : tie.After-next-task Inv-loop μ-loop → Name
+asked-for c = meant-method (started c .args .method)
+
+among : (c : tie.After-next-task Inv-loop μ-loop) → ChoosesAmong (method (asked-for c))
+among c = method-chooses-among (asked-for c)
 
 abbrev rows-so-far : tie.After-next-task Inv-loop μ-loop → List Placed
-rows-so-far c = place HBCS (flow c) (c .before .before .before .before .loop .k)
+rows-so-far c = place (method (asked-for c)) (flow c) (c .before .before .before .before .loop .k)
 
 in-range : (c : tie.After-next-task Inv-loop μ-loop) → InRange (flow c)
 in-range c =
-    let (in-order, few, ended, clock-in) = started c .pre .1 .1 .1 .0 in
-    begun-in-range (view-in-range (started c .args .s .now) (started c .args .v) (started c .pre .0)) in-order ended clock-in
+    let (in-order, few, ended, clock-in, budget-in) = started c .pre .1 .1 .1 .0 in
+    begun-in-range (view-in-range (started c .args .s .now) (started c .args .v) (started c .pre .0)) budget-in in-order ended clock-in
 
 acyclic : (c : tie.After-next-task Inv-loop μ-loop) → (i : ℕ) → Leads (flow c) i i → ⊥
 acyclic c =
     let a = started c .args in
-    acyclic-begun (kept-by (a .outset)) (a .clock) (workflow-of (a .s .now) (a .v))
+    acyclic-begun (a .budget) no-deadline (kept-by (a .outset)) (a .clock) (workflow-of (a .s .now) (a .v))
     (none-leads-back (workflow-of (a .s .now) (a .v)) (view-in-range (a .s .now) (a .v) (started c .pre .0) .to-below) (started c .pre .1 .1 .0 .0))
 
 edges-begin : (c : tie.After-next-task Inv-loop μ-loop) → BeginsFrom (flow c) 0 (started c .args .edges-at .now)
-edges-begin c = begins-begun _ (started c .args .outset) (started c .args .clock) (started c .pre .1 .1 .0 .1)
+edges-begin c = begins-begun (started c .args .budget) (started c .args .outset) (started c .args .clock) _ (started c .pre .1 .1 .0 .1)
 
 left : (c : tie.After-next-task Inv-loop μ-loop) → c .before .before .before .before .loop .k < flow c .tasks
 unfolding workflow begun
@@ -117,7 +125,7 @@ left c = c .before .before .if1 .taken
 next-is : (c : tie.After-next-task Inv-loop μ-loop) → c .next-task .result ≡ next-task (flow c) (is-placed (rows-so-far c))
 unfolding workflow begun
 next-is c =
-    let ranks-of = ranks-begun _ (started c .args .outset) (started c .args .clock) (started c .pre .1 .0 .0) in
+    let ranks-of = ranks-begun (started c .args .budget) (started c .args .outset) (started c .args .clock) _ (started c .pre .1 .0 .0) in
     next-kept (in-range c) (c .before .before .before .before .loop .inv .1) (left c) ranks-of (c .next-task .ensures)
 
 task-below : (c : tie.After-next-task Inv-loop μ-loop) → c .next-task .result < flow c .tasks
@@ -152,7 +160,7 @@ row-in-range c =
     let kept = turn .before .before .before .before .loop .inv .1 in
     let to-come = rcb-is (c .before .before .before .before .before .before .before .before .before .before .before) .1 in
     let all-ready = c .before .before .before .before .before .before .ready-on-all .ensures in
-    let (below, forward, reach) = row-within HBCS-chooses-among (in-range turn) kept (left turn) (next-is turn) all-ready to-come (c .row-for .ensures) in
+    let (below, forward, reach) = row-within (among turn) (in-range turn) kept (left turn) (next-is turn) all-ready to-come (c .row-for .ensures) in
     (omega (arith, below, in-range turn .processors-in .to-high), forward, reach)
 
 turned : (c : tie.After-row-for Inv-loop μ-loop) →
@@ -164,7 +172,7 @@ turned : (c : tie.After-row-for Inv-loop μ-loop) →
     (held : List ℕ) (after : Processors)
     → held ≡ released (workflow-of (started turn .args .s .now) (started turn .args .v)) (at begins task) (at begins (task + 1)) task (loop .held)
     → after ≡ with-taken-up row (processors-of (loop .begins) (loop .finishes) (loop .first))
-    → Kept (flow turn) (place HBCS (flow turn) (loop .k + 1)) (loop .k + 1)
+    → Kept (flow turn) (place (method (asked-for turn)) (flow turn) (loop .k + 1)) (loop .k + 1)
     (with-row
     (kept-in (loop .sits) (loop .starts) (loop .ends) (loop .costs) (loop .held) (loop .begins) (loop .finishes) (loop .first) (loop .rb) (loop .spent) (loop .rcb)
     (loop .length))
@@ -176,8 +184,8 @@ turned c held after held-is after-is =
     let kept = turn .before .before .before .before .loop .inv .1 in
     let to-come = rcb-is (c .before .before .before .before .before .before .before .before .before .before .before) .1 in
     let all-ready = c .before .before .before .before .before .before .ready-on-all .ensures in
-    kept-more HBCS-chooses-among (in-range turn) kept (left turn) (next-is turn) all-ready to-come (c .row-for .ensures) (acyclic turn) (edges-begin turn)
-    (held-is ∙ released-begun (workflow-of (a .s .now) (a .v)) (a .outset) (a .clock) _ _ _ _) after-is
+    kept-more (among turn) (in-range turn) kept (left turn) (next-is turn) all-ready to-come (c .row-for .ensures) (acyclic turn) (edges-begin turn)
+    (held-is ∙ released-begun (a .budget) (a .outset) (a .clock) (workflow-of (a .s .now) (a .v)) _ _ _ _) after-is
 
 cost-on-all-requires : tie.Need-cost-on-all-requires Inv-loop μ-loop
 unfolding workflow begun
@@ -289,13 +297,13 @@ returns : tie.Need-returns Inv-loop μ-loop
 unfolding workflow begun
 returns c =
     let loop = c .before .before .before .loop in
-    let v = c .before .before .before .before .before .before .before .before .before .before .before .before .before .args .v in
-    let passed : loop .k ≡ v .tasks = omega arith in
+    let a = c .before .before .before .before .before .before .before .before .before .before .before .before .before .args in
+    let passed : loop .k ≡ a .v .tasks = omega arith in
     let kept = rw passed at (loop .inv .1) in
     record {
       length-is = kept .length-is;
       cost-is = kept .spent-is;
-      left-is = c .less2 .ensures ∙ ap (λ x. v .budget - x) (kept .spent-is);
+      left-is = c .less2 .ensures ∙ ap (λ x. a .budget - x) (kept .spent-is);
       columns = kept .columns;
     }
 
