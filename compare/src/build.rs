@@ -10,6 +10,10 @@ pub fn d(deadline: u32) -> Vec<u8> {
     [&b"D"[..], &deadline.to_le_bytes()].concat()
 }
 
+pub fn k(share: u16) -> Vec<u8> {
+    [&b"K"[..], &share.to_le_bytes()].concat()
+}
+
 pub fn p(processor: u8, price: u8) -> Vec<u8> {
     vec![b'P', processor, price]
 }
@@ -45,8 +49,11 @@ pub fn z() -> Vec<u8> {
 /// 255 each.
 #[derive(Clone, Debug)]
 pub struct Draft {
+    /// What `H` says, whether there is a `K` or not.
     pub budget: u32,
     pub deadline: Option<u32>,
+    /// In thousandths; a `K` if there is one.
+    pub share: Option<u16>,
     pub prices: Vec<u8>,
     /// A processor that has a minimum here is a `Q`; any other, also one past
     /// the end of this list, is a `P`.
@@ -60,18 +67,24 @@ pub struct Draft {
 }
 
 impl Draft {
-    /// Tasks with the labels t0, t1, ..., no deadline and no window; every processor is a `P`.
+    /// Tasks with the labels t0, t1, ..., no deadline, no `K` and no window; every processor is a `P`.
     pub fn new(budget: u32, prices: &[u8], minutes: &[&[u16]], edges: &[(u8, u8, u16)]) -> Draft {
         let task = |(i, of_task): (usize, &&[u16])| (format!("t{i}"), of_task.to_vec());
         Draft {
             budget,
             deadline: None,
+            share: None,
             prices: prices.to_vec(),
             minimums: vec![None; prices.len()],
             windows: Vec::new(),
             tasks: minutes.iter().enumerate().map(task).collect(),
             edges: edges.to_vec(),
         }
+    }
+
+    /// The same with a `K`, and a budget of 0 in `H`.
+    pub fn with_share(self, share: u16) -> Draft {
+        Draft { budget: 0, share: Some(share), ..self }
     }
 
     /// The same with these for minimums.
@@ -92,6 +105,7 @@ impl Draft {
     pub fn records(&self) -> Vec<Vec<u8>> {
         let mut records = vec![h(self.tasks.len() as u8, self.prices.len() as u8, self.budget)];
         records.extend(self.deadline.map(d));
+        records.extend(self.share.map(k));
         let processor = |(j, &price): (u8, &u8)| match self.minimum(j.into()) {
             Some(minimum) => q(j, price, minimum),
             None => p(j, price),
@@ -111,7 +125,8 @@ impl Draft {
         self.records().concat()
     }
 
-    /// All times and windows multiplied by a, prices by b, minimums and the budget by both.
+    /// All times and windows multiplied by a, prices by b, minimums and the budget by both;
+    /// a `K` stays what it is.
     pub fn times(&self, a: u8, b: u8) -> Draft {
         let longer = |time: u16| time * u16::from(a);
         // What two bytes cannot hold becomes the largest that they can, which
@@ -124,6 +139,7 @@ impl Draft {
         Draft {
             budget: self.budget * u32::from(a) * u32::from(b),
             deadline: self.deadline.map(later),
+            share: self.share,
             prices: self.prices.iter().map(|price| price * b).collect(),
             minimums: self.minimums.iter().map(|minimum| minimum.map(more)).collect(),
             windows: self

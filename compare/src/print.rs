@@ -1,9 +1,25 @@
-//! The printed plan.
+//! The printed plan, and the printed range.
 
-use crate::{read, schedule, Answer, Row};
+use crate::{range, read, schedule_by, Answer, Costs, Method, Refusal, Row};
 
 /// What the program prints for a request, with 64 rows lent.
 pub fn text(request: &[u8]) -> Vec<u8> {
+    text_by(Method::Hbcs, request)
+}
+
+/// "The program for the range writes one line: `range `, the cheapest plan's cost,
+/// the HEFT plan's cost; or `no `, number, place."
+pub fn range_text(request: &[u8]) -> Vec<u8> {
+    let mut out = Vec::new();
+    match range(request) {
+        Ok(Costs { cheapest, heft }) => line(&mut out, b"range", &[cheapest, heft]),
+        Err(Refusal { number, place }) => line(&mut out, b"no", &[number, place]),
+    }
+    out
+}
+
+/// What the program for this method prints.
+pub fn text_by(method: Method, request: &[u8]) -> Vec<u8> {
     let mut out = Vec::new();
     let mut rows = [Row::default(); 64];
     let workflow = match read(request) {
@@ -13,7 +29,7 @@ pub fn text(request: &[u8]) -> Vec<u8> {
             return out;
         }
     };
-    match schedule(&workflow, &mut rows) {
+    match schedule_by(method, &workflow, &mut rows) {
         Answer::Refused { number, place } => line(&mut out, b"no", &[number, place]),
         Answer::Planned { n, length, cost, left } => {
             line(&mut out, b"plan", &[n, length, cost, left]);

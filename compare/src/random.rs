@@ -2,7 +2,7 @@
 
 use std::ops::Range;
 
-use crate::build::{m as window_record, Draft};
+use crate::build::{d as deadline_record, k as share_record, m as window_record, Draft};
 use crate::request::LIST;
 
 /// Marsaglia's xorshift with 64 bits.
@@ -165,9 +165,22 @@ pub fn has_a_zero(draft: &Draft) -> bool {
     draft.tasks.iter().any(|task| task.1.contains(&0))
 }
 
+/// A share: often one at or beside an end of its range, or the middle.
+pub fn share(random: &mut Random) -> u16 {
+    match random.within(1, 8) {
+        1 => 0,
+        2 => 1,
+        3 => 500,
+        4 => 999,
+        5 => 1_000,
+        _ => random.within(0, 1_000) as u16,
+    }
+}
+
 /// A good request. Edges mostly follow a random order of the tasks; one draft
 /// in ten may have a cycle. Three in four may have `Q`s, two in three windows, and
-/// half of them minutes of 0. The budget lies around and above the cheapest total.
+/// half of them minutes of 0. The budget lies around and above the cheapest total;
+/// one in three has a `K` in its place.
 pub fn draft(random: &mut Random, limits: &Limits) -> Draft {
     let n = random.within(1, limits.tasks);
     let m = random.within(1, limits.processors);
@@ -218,6 +231,9 @@ pub fn draft(random: &mut Random, limits: &Limits) -> Draft {
     if !random.one_in(3) {
         draft.windows = windows(random, m as usize, limits.window);
     }
+    if random.one_in(3) {
+        draft = draft.with_share(share(random));
+    }
     draft
 }
 
@@ -241,8 +257,8 @@ pub fn damage(random: &mut Random, request: &mut Vec<u8>) {
 /// A good request of exactly these sizes, for readers: each number anywhere in
 /// its range and often at an end of it, labels of any bytes of the list, a
 /// deadline in every second one; three in four may have `Q`s, two in three
-/// windows, half of them minutes of 0. A request of n tasks has n x (n-1) edges at
-/// the most.
+/// windows, half of them minutes of 0, one in three a `K`. A request of n tasks has
+/// n x (n-1) edges at the most.
 pub fn sized(random: &mut Random, n: u64, m: u64, edges: u64) -> Draft {
     let mut draft = Draft::new(random.often_an_end(0, 20_000_000) as u32, &[], &[], &[]);
     draft.deadline = random.one_in(2).then(|| random.often_an_end(1, 200_000) as u32);
@@ -267,7 +283,7 @@ pub fn sized(random: &mut Random, n: u64, m: u64, edges: u64) -> Draft {
             left -= 1;
         }
     }
-    // Last, so that all else is the same with any minimums, windows and zeros.
+    // Last, so that all else is the same with any minimums, windows, zeros and `K`.
     if !random.one_in(4) {
         let minimum = |random: &mut Random, _| random.often_an_end(0, 10_000);
         draft.minimums = minimums(random, m as usize, minimum);
@@ -277,6 +293,9 @@ pub fn sized(random: &mut Random, n: u64, m: u64, edges: u64) -> Draft {
     }
     if random.one_in(2) {
         single_zeros(random, &mut draft, 8);
+    }
+    if random.one_in(3) {
+        draft = draft.with_share(share(random));
     }
     draft
 }
@@ -304,6 +323,9 @@ pub enum Damage {
     /// One to four windows more, where windows may stand: out of order, inside
     /// one that is there, past a range, one too many, or good ones.
     Windows,
+    /// A `K` more: beside a budget or without one, out of range, behind another, before
+    /// a `D`, behind a processor's record, or a good one.
+    Share,
     /// From some place on, half of the time from the front, all is noise.
     Noise,
     /// Two to four of the above.
@@ -311,7 +333,7 @@ pub enum Damage {
 }
 
 impl Damage {
-    pub const ALL: [Damage; 11] = [
+    pub const ALL: [Damage; 12] = [
         Damage::Cut,
         Damage::Lengthened,
         Damage::Shortened,
@@ -321,6 +343,7 @@ impl Damage {
         Damage::Doubled,
         Damage::Dropped,
         Damage::Windows,
+        Damage::Share,
         Damage::Noise,
         Damage::Several,
     ];
@@ -378,6 +401,7 @@ impl Damage {
                 request.drain(record);
             }
             Damage::Windows => more_windows(random, request),
+            Damage::Share => one_share_more(random, request),
             Damage::Noise => {
                 let kept = if random.one_in(2) { 0 } else { random.within(0, len) };
                 request.truncate(kept as usize);
@@ -397,7 +421,7 @@ impl Damage {
 /// Any byte, half of the time a kind byte, a space or a small number.
 fn any_byte(random: &mut Random) -> u8 {
     if random.one_in(2) {
-        random.one_of(b"HDPQMTWEZ \0\x01\x02")
+        random.one_of(b"HDKPQMTWEZ \0\x01\x02")
     } else {
         random.number() as u8
     }
@@ -412,7 +436,7 @@ pub fn records(request: &[u8]) -> Vec<Range<usize>> {
         let body = match request[at] {
             b'H' => 6,
             b'D' | b'Q' | b'W' | b'E' => 4,
-            b'P' => 2,
+            b'K' | b'P' => 2,
             b'M' | b'T' => 9,
             b'Z' => 0,
             _ => request.len(),
@@ -492,6 +516,37 @@ fn more_windows(random: &mut Random, request: &mut Vec<u8>) {
     request.splice(at..at, more.concat());
 }
 
+/// Puts in a `K`, by the records that are there. Half of the time the budget is 0 then,
+/// if there is a whole `H`.
+fn one_share_more(random: &mut Random, request: &mut Vec<u8>) {
+    let share = match random.within(1, 6) {
+        1 => random.one_of(&[1_001, 1_255, 0x0400, u16::MAX]),
+        _ => share(random),
+    };
+    let records = records(request);
+    let behind = |kinds: &[u8]| {
+        let last = records.iter().rfind(|record| kinds.contains(&request[record.start]));
+        last.map_or(0, |record| record.end)
+    };
+    let (at, more) = match random.within(1, 8) {
+        // Where it is due, before the `D` or another `D` behind it, and two of them.
+        1..=3 => (behind(b"HD"), vec![share_record(share)]),
+        4 => (behind(b"H"), vec![share_record(share)]),
+        5 => (behind(b"H"), vec![share_record(share), deadline_record(14)]),
+        6 => (behind(b"HDK"), vec![share_record(share); 2]),
+        // Behind a processor's record, and anywhere.
+        7 => (behind(b"HDKPQ"), vec![share_record(share)]),
+        _ => {
+            let before = random.within(0, records.len() as u64 - 1) as usize;
+            (records[before].start, vec![share_record(share)])
+        }
+    };
+    if random.one_in(2) && request[0] == b'H' && request.len() >= 7 {
+        request[3..7].fill(0);
+    }
+    request.splice(at..at, more.concat());
+}
+
 /// Puts one field of a whole record just past an end of its range; any other
 /// record stays as it is.
 fn put_out_of_range(random: &mut Random, request: &mut [u8], record: Range<usize>) {
@@ -501,10 +556,14 @@ fn put_out_of_range(random: &mut Random, request: &mut [u8], record: Range<usize
         [b'H', n, m, budget @ ..] if budget.len() == 4 => match random.within(1, 3) {
             1 => *n = random.one_of(&[0, 65]),
             2 => *m = random.one_of(&[0, 17]),
-            _ => budget.copy_from_slice(&20_000_001u32.to_le_bytes()),
+            // The second is out of range only beside a `K`.
+            _ => budget.copy_from_slice(&random.one_of(&[20_000_001u32, 1]).to_le_bytes()),
         },
         [b'D', deadline @ ..] if deadline.len() == 4 => {
             deadline.copy_from_slice(&random.one_of(&[0, 200_001u32]).to_le_bytes())
+        }
+        [b'K', share @ ..] if share.len() == 2 => {
+            share.copy_from_slice(&random.one_of(&[1_001, u16::MAX]).to_le_bytes())
         }
         [b'P', _, price] => *price = 101,
         [b'Q', _, price, minimum @ ..] if minimum.len() == 2 => match random.within(1, 2) {

@@ -7,8 +7,8 @@ const EDGE_LIMIT: usize = 512;
 /// "At most four windows of a processor."
 const WINDOW_LIMIT: usize = 4;
 
-/// "So a good request, one not refused with 1 to 6, has at most 9,053 bytes."
-pub const MOST_BYTES: usize = 9_053;
+/// "So a good request, one not refused with 1 to 6, has at most 9,056 bytes."
+pub const MOST_BYTES: usize = 9_056;
 
 /// "The list has sixty-four bytes."
 pub(crate) const LIST: &[u8; 64] =
@@ -54,8 +54,11 @@ pub struct Workflow {
     pub tasks: usize,
     /// m
     pub processors: usize,
+    /// What `H` says; 0 beside a `K`. The one in force is [`budget`](crate::budget).
     pub budget: u32,
     pub deadline: Option<u32>,
+    /// What a `K` says, in thousandths.
+    pub share: Option<u32>,
     /// Price per minute of each processor.
     pub prices: Vec<u32>,
     /// The least amount that each processor bills for a task; "a `P` has minimum 0".
@@ -87,6 +90,16 @@ pub fn read(request: &[u8]) -> Result<Workflow, Refusal> {
         let minutes = u32::from_le_bytes(body);
         require((1..=200_000).contains(&minutes), 4, at)?;
         deadline = Some(minutes);
+    }
+
+    let mut share = None;
+    if records.kind() == Some(b'K') {
+        let (at, &body) = records.take::<2>(b'K')?;
+        let thousandths = u16::from_le_bytes(body);
+        require(thousandths <= 1_000, 4, at)?;
+        // "A nonzero budget in `H` beside a `K`, at the `K` record."
+        require(budget == 0, 4, at)?;
+        share = Some(thousandths.into());
     }
 
     let mut prices = Vec::with_capacity(m.into());
@@ -164,6 +177,7 @@ pub fn read(request: &[u8]) -> Result<Workflow, Refusal> {
         processors: m.into(),
         budget,
         deadline,
+        share,
         prices,
         minimums,
         windows,

@@ -11,8 +11,11 @@ pub fn all() -> Vec<(&'static str, Vec<u8>)> {
     let minimum = sample(28).with_minimums(&[None, Some(10)]);
     // Each processor is down once.
     let windows = sample(28).with_windows(&[(0, 7, 9), (1, 4, 30)]);
+    // The budget lies between what the cheapest plan and the HEFT plan cost: it is 28 again.
+    let share = sample(0).with_share(667);
     vec![
         ("s28", sample(28).bytes()),
+        ("share", share.bytes()),
         ("semicolon", semicolon),
         ("gap", gap().bytes()),
         ("minimum", minimum.bytes()),

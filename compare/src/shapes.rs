@@ -1,5 +1,5 @@
-//! Requests for planners: workflows of every shape, with numbers, budgets, deadlines, minimums, windows and markers that
-//! bring out ties and limits.
+//! Requests for planners: workflows of every shape, with numbers, budgets, deadlines, minimums, windows, markers and shares
+//! that bring out ties and limits.
 
 use std::cmp::Reverse;
 
@@ -7,7 +7,9 @@ use crate::build::Draft;
 use crate::plan::schedule_in;
 use crate::random::{cheapest_total, make_marker, markers, minimums};
 use crate::random::{single_zeros, windows_of, Random};
-use crate::{order, plan, ranks, read, schedule, Answer, Row, Workflow};
+use crate::{
+    order, plan, plan_by, ranks, read, schedule, schedule_by, Answer, Method, Row, Workflow,
+};
 
 /// How the edges lie. Their tasks are numbered in any order.
 #[derive(Clone, Copy, Debug, PartialEq, Eq)]
@@ -124,6 +126,24 @@ pub enum Markers {
     All,
 }
 
+/// Whether a `K` sets the budget. Where one does, that of the shape does not count.
+#[derive(Clone, Copy, Debug, PartialEq, Eq)]
+pub enum Share {
+    /// There is none.
+    None,
+    /// 0: the cheapest total.
+    Lowest,
+    /// 1.
+    One,
+    /// 500.
+    Half,
+    /// 999.
+    Almost,
+    /// 1,000: what the HEFT plan costs.
+    Highest,
+    Any,
+}
+
 pub const GRAPHS: [Graph; 7] = [
     Graph::Chain,
     Graph::Fork,
@@ -175,23 +195,41 @@ pub const MARKERS: [Markers; 11] = [
     Markers::None,
 ];
 
-pub type Shape = (Graph, Numbers, Budget, Deadline, Minimums, Windows, Markers);
+/// Every sort between two that are none, so that every second request has no `K`.
+pub const SHARES: [Share; 13] = [
+    Share::None,
+    Share::Lowest,
+    Share::None,
+    Share::One,
+    Share::None,
+    Share::Half,
+    Share::None,
+    Share::Almost,
+    Share::None,
+    Share::Highest,
+    Share::None,
+    Share::Any,
+    Share::None,
+];
 
-/// How many shapes there are, but for their windows and markers.
+pub type Shape = (Graph, Numbers, Budget, Deadline, Minimums, Windows, Markers, Share);
+
+/// How many shapes there are, but for their windows, markers and shares.
 pub const SHAPES: usize =
     GRAPHS.len() * NUMBERS.len() * BUDGETS.len() * DEADLINES.len() * MINIMUMS.len();
 
 /// The shapes one after the other: graphs change first, then numbers, budgets, deadlines and minimums. After the last
-/// comes the first again, with other windows and markers: these change from each to the next. Since 9, 11 and the number
-/// of the others have no divisor in common, nine rounds have all shapes with all windows, and each round has every sort of
-/// windows and of markers with every other part.
+/// comes the first again, with other windows, markers and shares: these change from each to the next. Since 9, 11, 13 and
+/// the number of the others have no divisor in common, nine rounds have all shapes with all windows, and each round has
+/// every sort of windows, of markers and of shares with every other part.
 pub fn shape(k: usize) -> Shape {
     let (windows, markers) = (WINDOWS[k % WINDOWS.len()], MARKERS[k % MARKERS.len()]);
+    let share = SHARES[k % SHARES.len()];
     let (graph, k) = (GRAPHS[k % GRAPHS.len()], k / GRAPHS.len());
     let (numbers, k) = (NUMBERS[k % NUMBERS.len()], k / NUMBERS.len());
     let (budget, k) = (BUDGETS[k % BUDGETS.len()], k / BUDGETS.len());
     let (deadline, k) = (DEADLINES[k % DEADLINES.len()], k / DEADLINES.len());
-    (graph, numbers, budget, deadline, MINIMUMS[k % MINIMUMS.len()], windows, markers)
+    (graph, numbers, budget, deadline, MINIMUMS[k % MINIMUMS.len()], windows, markers, share)
 }
 
 /// Good requests of every shape, one after the other; sizes up to the limits, half of them small.
@@ -278,6 +316,27 @@ pub fn turned_by_windows(request: &[u8]) -> bool {
     turned(request, |workflow| workflow.windows.clear())
 }
 
+/// Whether the request has a plan, with a budget that a `K` sets, in which some task runs elsewhere, or at other minutes,
+/// than in the cheapest plan and some than in the HEFT plan.
+pub fn turned_by_share(request: &[u8]) -> bool {
+    let Some(rows) = planned(request) else { return false };
+    let workflow = read(request).expect("it has a plan");
+    let other = |method| {
+        let mut others = [Row::default(); 64];
+        schedule_by(method, &workflow, &mut others);
+        elsewhere(&rows, &others)
+    };
+    workflow.share.is_some() && other(Method::Cheapest) && other(Method::Heft)
+}
+
+/// Whether some task runs elsewhere, or at other minutes, in the HEFT plan of the request than in its cheapest plan.
+pub fn methods_differ(request: &[u8]) -> bool {
+    let (mut cheapest, mut heft) = ([Row::default(); 64], [Row::default(); 64]);
+    plan_by(Method::Cheapest, request, &mut cheapest);
+    plan_by(Method::Heft, request, &mut heft);
+    elsewhere(&cheapest, &heft)
+}
+
 /// Whether the row is a marker's: its task takes no time on its processor.
 fn marks(row: &Row) -> bool {
     row.start == row.finish
@@ -336,7 +395,7 @@ pub fn turned_by_order(request: &[u8]) -> bool {
     let mut workflow = read(request).expect("it has a plan");
     workflow.deadline = None;
     let mut others = [Row::default(); 64];
-    schedule_in(|ranks, _| order_before(ranks), &workflow, &mut others);
+    schedule_in(|ranks, _| order_before(ranks), Method::Hbcs, &workflow, &mut others);
     elsewhere(&rows, &others)
 }
 
@@ -344,7 +403,7 @@ pub fn turned_by_order(request: &[u8]) -> bool {
 pub fn shaped(
     random: &mut Random,
     (n, m): (usize, usize),
-    (graph, numbers, budget, deadline, least, down, without_time): Shape,
+    (graph, numbers, budget, deadline, least, down, without_time, between): Shape,
 ) -> Draft {
     let mut draft = Draft::new(20_000_000, &[], &[], &[]);
     draft.prices = prices(random, m, numbers);
@@ -371,6 +430,16 @@ pub fn shaped(
         Budget::Cheapest => cheapest as u32,
         Budget::TooLow => cheapest.saturating_sub(1) as u32,
         Budget::Tight => random.within(cheapest, cheapest * 2).min(20_000_000) as u32,
+    };
+    let any = random.within(0, 1_000) as u16;
+    draft = match between {
+        Share::None => draft,
+        Share::Lowest => draft.with_share(0),
+        Share::One => draft.with_share(1),
+        Share::Half => draft.with_share(500),
+        Share::Almost => draft.with_share(999),
+        Share::Highest => draft.with_share(1_000),
+        Share::Any => draft.with_share(any),
     };
     draft.deadline = match deadline {
         Deadline::None => None,

@@ -1,17 +1,18 @@
 //! The cases of document 01 and of A4, A5 and A9 of document 02, and both edges of
-//! each range. Of document 01's cases one is no longer as it stands there: 0 minutes,
+//! each range; those of A7 are in `range.rs`. Of document 01's cases one is no longer as it stands there: 0 minutes,
 //! which it refuses with 4, pass since A9. Offsets in S(28): H 0, P 7 10, T W W
 //! 13 23 28, 33 43 48, 53 63 68, E 73 78, Z 83, end 84.
 
 use std::io::Write;
 use std::process::{Command, Stdio};
 
-use compare::build::{d, e, h, m, p, q, sample, t, w, z, Draft};
+use compare::build::{d, e, h, k, m, p, q, sample, t, w, z, Draft};
 use compare::{label, order, plan, ranks, read, samples, text};
 use compare::{Answer, Refusal, Row, Window, MOST_BYTES};
 
 const H: usize = 7;
 const D: usize = 5;
+const K: usize = 3;
 const P: usize = 3;
 const Q: usize = 5;
 const M: usize = 10;
@@ -335,7 +336,7 @@ fn largest_good_request_with_windows() {
     let draft = largest().with_minimums(&[Some(10_000); 16]).with_windows(&all_down());
     let request = draft.bytes();
     assert_eq!(request.len(), H + D + 16 * Q + 64 * M + 64 * (T + 16 * W) + 512 * E + 1);
-    assert_eq!((request.len(), MOST_BYTES), (9_053, 8_413 + 640));
+    assert_eq!(request.len(), 8_413 + 640);
     passes(&request);
     // All are down until 20,000, so the plan is the one without windows, that much later.
     let (answer, rows) = answer_with(64, &request);
@@ -345,6 +346,23 @@ fn largest_good_request_with_windows() {
     for (row, earlier) in rows.iter().zip(rows_earlier) {
         let later = (earlier.0, earlier.1 + 20_000, earlier.2 + 20_000, earlier.3);
         assert_eq!(*row, later);
+    }
+    refuses(&[&request[..], b"E"].concat(), 6, 9_053);
+}
+
+/// The same with a `K` in place of the budget: "the size limit grows by 3 bytes" (A7).
+#[test]
+fn largest_good_request_with_a_share() {
+    let draft = largest().with_minimums(&[Some(10_000); 16]).with_windows(&all_down());
+    let request = draft.clone().with_share(1_000).bytes();
+    assert_eq!(request.len(), H + D + K + 16 * Q + 64 * M + 64 * (T + 16 * W) + 512 * E + 1);
+    assert_eq!((request.len(), MOST_BYTES), (9_056, 9_053 + 3));
+    passes(&request);
+    // Every task costs 200,000 everywhere, so that either end of the range is 12,800,000.
+    let Answer::Planned { length, .. } = answer(&draft.bytes()) else { panic!("it has a plan") };
+    for share in [0, 1, 1_000] {
+        let request = draft.clone().with_share(share).bytes();
+        assert_eq!(answer(&request), planned(64, length, 12_800_000, 0));
     }
     refuses(&[&request[..], b"E"].concat(), 6, MOST_BYTES);
     // A 513th edge, which is whole only with the bytes past the limit.
@@ -414,14 +432,14 @@ fn label_lookup_asks_for_reading_only() {
 #[test]
 fn only_the_kind_due() {
     // Each record in turn gets each kind byte; E and Z are due alike at 73, 78
-    // and 83, M beside T at 13, Q beside P at 7 and 10, and D beside both at 7.
+    // and 83, M beside T at 13, Q beside P at 7 and 10, and D and K beside both at 7.
     let good = sample(28).bytes();
     let offsets = [0, 7, 10, 13, 23, 28, 33, 43, 48, 53, 63, 68, 73, 78, 83];
     for at in offsets {
         for kind in 0..=255 {
             let due = match at {
                 0 => kind == b'H',
-                7 => kind == b'P' || kind == b'Q' || kind == b'D',
+                7 => kind == b'P' || kind == b'Q' || kind == b'D' || kind == b'K',
                 10 => kind == b'P' || kind == b'Q',
                 13 => kind == b'T' || kind == b'M',
                 73 | 78 | 83 => kind == b'E' || kind == b'Z',
@@ -441,6 +459,7 @@ fn only_the_kind_due() {
         request
     };
     refuses(&changed(7, b'D'), 4, 7); // the deadline's bytes are 0, 1, `P`, 1
+    refuses(&changed(7, b'K'), 4, 7); // the share's are 0, 1, and the budget is 28
     refuses(&changed(7, b'Q'), 2, 12); // the minimum's are `P`, 1, and 3 is no kind
     refuses(&changed(10, b'Q'), 2, 15); // the minimum's are `T`, 0
     refuses(&changed(13, b'M'), 4, 13); // the begin's are `prep`, the end's spaces
@@ -886,8 +905,8 @@ fn m_where_none_is_due() {
     }
     refuses(&[records.concat(), m(1, 4, 5)].concat(), 6, offset(16));
     // No other kind stands among windows.
-    for record in [h(3, 2, 28), d(14), p(0, 1), p(1, 3), q(1, 3, 10), w(0, 0, 10), e(0, 1, 2), z()]
-    {
+    let others = [h(3, 2, 28), d(14), k(0), p(0, 1), p(1, 3), q(1, 3, 10), w(0, 0, 10)];
+    for record in others.into_iter().chain([e(0, 1, 2), z()]) {
         for k in [3, 4] {
             let mut inserted = records.clone();
             inserted.insert(k, record.clone());
@@ -1063,7 +1082,7 @@ fn the_program_prints_the_text() {
     let windows = down(&[(0, 7, 9), (1, 4, 30)]);
     assert_eq!(run(&windows), text(&windows));
     let longest = self::largest().with_minimums(&[Some(10_000); 16]).with_windows(&all_down());
-    let longest = longest.bytes();
+    let longest = longest.with_share(1_000).bytes();
     assert_eq!(run(&longest), text(&longest));
     let more = [&longest[..], &[b'Q'; 20_000]].concat();
     assert_eq!(run(&more), format!("no 6 {MOST_BYTES}\n").into_bytes());

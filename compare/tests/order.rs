@@ -1,13 +1,14 @@
 //! The order in which tasks are placed, on random requests from a fixed seed: the
 //! rule written out, and document 01's order, by which requests without a 0 have the
-//! same plans. Both are put into a planner that marks each minute that is taken.
+//! same plans. Both are put into a planner that marks each minute that is taken, and
+//! so are the three methods.
 
 use std::cmp::Reverse;
 
 use compare::build::Draft;
 use compare::random::{cheapest_total, cost, draft, has_a_zero, Limits, Random, FULL, SMALL};
 use compare::shapes::{of_every_shape, SHAPES};
-use compare::{order, plan, ranks, read, Answer, Row};
+use compare::{order, plan, plan_by, ranks, read, Answer, Method, Row};
 
 /// The order of the rules, and document 01's.
 #[derive(Clone, Copy, PartialEq)]
@@ -48,10 +49,9 @@ fn latest(limits: &Limits) -> usize {
     (limits.window + minutes + 1) as usize
 }
 
-/// The answer and the rows, with the tasks placed in this order. Of a predecessor that
-/// is not placed the row is all 0.
-fn planned(draft: &Draft, order: Order, latest: usize) -> (Answer, Vec<Row>) {
-    let (n, m) = (draft.tasks.len(), draft.prices.len());
+/// The answer and the rows by this method, with the tasks placed in this order. Of a
+/// predecessor that is not placed the row is all 0.
+fn planned(draft: &Draft, method: Method, order: Order, latest: usize) -> (Answer, Vec<Row>) {
     let refused = |number, place| (Answer::Refused { number, place }, Vec::new());
     let Some(tasks) = tasks_in(order, draft) else {
         // The lowest task on a cycle is the program's business.
@@ -59,17 +59,52 @@ fn planned(draft: &Draft, order: Order, latest: usize) -> (Answer, Vec<Row>) {
         assert!(matches!(answer, Answer::Refused { number: 8, .. }));
         return (answer, Vec::new());
     };
-    let (budget, cheapest) = (u64::from(draft.budget), cheapest_total(draft));
-    if cheapest > budget {
-        return refused(9, cheapest);
+    let summed = |rows: &[Row]| rows.iter().map(|row| row.cost).sum::<u64>();
+    let (rows, left) = match method {
+        Method::Cheapest => (placed(draft, &tasks, latest, |offers, _, _| lowest_cost(offers)), 0),
+        Method::Heft => (placed(draft, &tasks, latest, |offers, _, _| best(offers)), 0),
+        Method::Hbcs => {
+            let cheapest = cheapest_total(draft);
+            let budget = match draft.share {
+                None => draft.budget.into(),
+                Some(share) => {
+                    let heft = placed(draft, &tasks, latest, |offers, _, _| best(offers));
+                    cheapest + (summed(&heft) - cheapest) * u64::from(share) / 1_000
+                }
+            };
+            if cheapest > budget {
+                return refused(9, cheapest);
+            }
+            let within = |offers: &[Row], spent, rcb| *choice(offers, budget - spent, rcb);
+            let rows = placed(draft, &tasks, latest, within);
+            let left = budget - summed(&rows);
+            (rows, left)
+        }
+    };
+    let length = rows.iter().map(|row| row.finish).max().unwrap();
+    if method == Method::Hbcs && draft.deadline.is_some_and(|deadline| length > deadline.into()) {
+        return refused(11, length);
     }
+    let (n, cost) = (rows.len() as u64, summed(&rows));
+    (Answer::Planned { n, length, cost, left }, rows)
+}
+
+/// The rows of these tasks, placed one after the other: each as is chosen from what all
+/// processors give it, what is spent so far and the lowest costs of those to come.
+fn placed(
+    draft: &Draft,
+    tasks: &[usize],
+    latest: usize,
+    chosen: impl Fn(&[Row], u64, u64) -> Row,
+) -> Vec<Row> {
+    let m = draft.prices.len();
     let mut taken = vec![vec![false; latest]; m];
     for &(j, begin, end) in &draft.windows {
         taken[usize::from(j)][begin as usize..end as usize].fill(true);
     }
-    let mut rows = vec![Row::default(); n];
-    let (mut rb, mut rcb) = (budget, cheapest);
-    for i in tasks {
+    let mut rows = vec![Row::default(); draft.tasks.len()];
+    let (mut spent, mut rcb) = (0, cheapest_total(draft));
+    for &i in tasks {
         let offer = |j: usize| {
             let entering = draft.edges.iter().filter(|edge| usize::from(edge.1) == i);
             let arrivals = entering.map(|&(from, _, transfer)| {
@@ -86,21 +121,27 @@ fn planned(draft: &Draft, order: Order, latest: usize) -> (Answer, Vec<Row>) {
         };
         let offers: Vec<Row> = (0..m).map(offer).collect();
         rcb -= offers.iter().map(|row| row.cost).min().unwrap();
-        let row = *choice(&offers, rb, rcb);
+        let row = chosen(&offers, spent, rcb);
         taken[row.processor as usize][row.start as usize..row.finish as usize].fill(true);
-        rb -= row.cost;
+        spent += row.cost;
         rows[i] = row;
     }
-    let length = rows.iter().map(|row| row.finish).max().unwrap();
-    if draft.deadline.is_some_and(|deadline| length > deadline.into()) {
-        return refused(11, length);
-    }
-    (Answer::Planned { n: n as u64, length, cost: budget - rb, left: rb }, rows)
+    rows
+}
+
+/// "Earliest finish; ties to lower cost, then lower number."
+fn best(offers: &[Row]) -> Row {
+    *offers.iter().min_by_key(|row| (row.finish, row.cost, row.processor)).unwrap()
+}
+
+/// "Lowest cost, ties to earliest finish, then lower number."
+fn lowest_cost(offers: &[Row]) -> Row {
+    *offers.iter().min_by_key(|row| (row.cost, row.finish, row.processor)).unwrap()
 }
 
 /// The section "Choosing a processor", in the numbers of its sentences.
 fn choice(offers: &[Row], rb: u64, rcb: u64) -> &Row {
-    let best = offers.iter().min_by_key(|row| (row.finish, row.cost, row.processor)).unwrap();
+    let best = best(offers);
     let highest = |of: fn(&Row) -> u64| offers.iter().map(of).max().unwrap();
     let lowest = |of: fn(&Row) -> u64| offers.iter().map(of).min().unwrap();
     let range = |of: fn(&Row) -> u64| (highest(of) - lowest(of)).max(1);
@@ -113,10 +154,10 @@ fn choice(offers: &[Row], rb: u64, rcb: u64) -> &Row {
     taken.max_by_key(|row| (score(row), Reverse(row.finish), Reverse(row.processor))).unwrap()
 }
 
-/// The program's answer and rows.
-fn answered(draft: &Draft) -> (Answer, Vec<Row>) {
+/// The program's answer and rows by this method.
+fn answered(draft: &Draft, method: Method) -> (Answer, Vec<Row>) {
     let mut rows = [Row::default(); 64];
-    let answer = plan(&draft.bytes(), &mut rows);
+    let answer = plan_by(method, &draft.bytes(), &mut rows);
     let n = if matches!(answer, Answer::Planned { .. }) { draft.tasks.len() } else { 0 };
     (answer, rows[..n].to_vec())
 }
@@ -152,9 +193,9 @@ fn requests_without_zeros_keep_their_plans() {
     for _ in 0..20_000 {
         let draft = draft(&mut random, &SMALL);
         let latest = latest(&SMALL);
-        let answered = answered(&draft);
-        assert_eq!(planned(&draft, Order::Now, latest), answered, "{draft:?}");
-        let before = planned(&draft, Order::Before, latest);
+        let answered = answered(&draft, Method::Hbcs);
+        assert_eq!(planned(&draft, Method::Hbcs, Order::Now, latest), answered, "{draft:?}");
+        let before = planned(&draft, Method::Hbcs, Order::Before, latest);
         let number = match answered.0 {
             Answer::Planned { .. } => 0,
             Answer::Refused { number, .. } => number as usize,
@@ -178,4 +219,26 @@ fn requests_without_zeros_keep_their_plans() {
     assert!(each(without) && each(with), "{without:?} {with:?}");
     assert!(without[0] >= 5_000 && with[0] >= 5_000, "{without:?} {with:?}");
     assert!(others >= 80 && other_answers >= 25, "{others} {other_answers}");
+}
+
+/// The two methods asked for alone "both with the present order, starts and windows" (A7),
+/// in the same planner.
+#[test]
+fn the_other_methods_place_as_the_rule_says() {
+    let mut random = Random(0x0A7A_5EED_0000_0004);
+    let (mut cycles, mut apart, mut shared) = (0, 0, 0);
+    for _ in 0..10_000 {
+        let draft = draft(&mut random, &SMALL);
+        let [cheapest, heft] = [Method::Cheapest, Method::Heft].map(|method| {
+            let answered = answered(&draft, method);
+            let planned = planned(&draft, method, Order::Now, latest(&SMALL));
+            assert_eq!(planned, answered, "{method:?} of {draft:?}");
+            answered
+        });
+        cycles += usize::from(heft.1.is_empty());
+        apart += usize::from(cheapest != heft);
+        shared += usize::from(draft.share.is_some());
+    }
+    println!("{cycles} with a cycle, {apart} with two plans, {shared} with a K");
+    assert!(cycles >= 200 && apart >= 5_000 && shared >= 2_000, "{cycles} {apart} {shared}");
 }

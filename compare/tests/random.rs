@@ -9,10 +9,12 @@ use compare::random::{cheapest_total, cost, damage, draft, has_a_zero};
 use compare::random::{Damage, Limits, Random, FULL, SMALL};
 use compare::shapes::{bills_a_minimum, fills_a_gap, of_every_shape, shaped, turned_by_minimums};
 use compare::shapes::{has_a_marker, marker_in_a_row, marker_in_a_window, ordered_anew};
+use compare::shapes::{methods_differ, turned_by_share};
 use compare::shapes::{shape, turned_by_order, turned_by_windows, waits_for_a_window};
-use compare::shapes::{Budget, Deadline, SHAPES};
-use compare::shapes::{BUDGETS, DEADLINES, GRAPHS, MARKERS, MINIMUMS, NUMBERS, WINDOWS};
-use compare::{label, order, plan, read, text, Answer, Row, REFUSALS};
+use compare::shapes::{Budget, Deadline, Share, SHAPES};
+use compare::shapes::{BUDGETS, DEADLINES, GRAPHS, MARKERS, MINIMUMS, NUMBERS, SHARES, WINDOWS};
+use compare::{label, order, plan, plan_by, range, range_text, read, text, text_by};
+use compare::{Answer, Costs, Method, Refusal, Row, REFUSALS};
 
 /// What must hold of any answer to a good request with enough rows.
 fn check(draft: &Draft, answer: Answer, rows: &[Row]) {
@@ -20,14 +22,23 @@ fn check(draft: &Draft, answer: Answer, rows: &[Row]) {
         let Answer::Refused { number, place } = answer else { unreachable!() };
         match number {
             8 => assert!(on_a_cycle(draft, place as u8)),
-            9 => assert_eq!(place, cheapest_total(draft)),
+            9 => assert_eq!((place, draft.share), (cheapest_total(draft), None)),
             11 => assert!(place > u64::from(draft.deadline.unwrap())),
             _ => panic!("refusal {number} at {place}"),
         }
         return;
     };
+    assert!(draft.deadline.is_none_or(|deadline| length <= u64::from(deadline)));
+    let budget = budget_in_force(draft);
+    assert!(cheapest_total(draft) <= budget);
+    assert_eq!(total + left, budget);
+    check_rows(draft, (n, length, total), rows);
+}
+
+/// What must hold of the rows of any plan, by whatever method: n, length and cost are
+/// said of it.
+fn check_rows(draft: &Draft, (n, length, total): (u64, u64, u64), rows: &[Row]) {
     assert_eq!(n as usize, draft.tasks.len());
-    assert!(cheapest_total(draft) <= u64::from(draft.budget));
     let rows = &rows[..n as usize];
     for (i, row) in rows.iter().enumerate() {
         let j = row.processor as usize;
@@ -48,9 +59,74 @@ fn check(draft: &Draft, answer: Answer, rows: &[Row]) {
         assert_eq!(row.start, first_with_room(draft, rows, i, j, others));
     }
     assert_eq!(total, rows.iter().map(|row| row.cost).sum::<u64>());
-    assert_eq!(total + left, u64::from(draft.budget));
     assert_eq!(length, rows.iter().map(|row| row.finish).max().unwrap());
-    assert!(draft.deadline.is_none_or(|deadline| length <= u64::from(deadline)));
+}
+
+/// The rows of the plan in which each task goes to the processor of the least key, made of
+/// its finish and cost there; of equals to the lower number.
+fn placed_by(draft: &Draft, key: fn(u64, u64) -> (u64, u64)) -> Vec<Row> {
+    let order = order(&read(&draft.bytes()).unwrap()).unwrap();
+    let mut rows = vec![Row::default(); draft.tasks.len()];
+    for (placed, &i) in order.iter().enumerate() {
+        let on = |j: usize| {
+            let before = order[..placed].iter().map(|&k| &rows[k]);
+            let start = first_with_room(draft, &rows, i, j, before);
+            let finish = start + u64::from(draft.tasks[i].1[j]);
+            Row { processor: j as u64, start, finish, cost: cost(draft, i, j) }
+        };
+        let all = (0..draft.prices.len()).map(on);
+        let row = all.min_by_key(|row| key(row.finish, row.cost)).unwrap();
+        rows[i] = row;
+    }
+    rows
+}
+
+/// What rows cost together.
+fn total(rows: &[Row]) -> u64 {
+    rows.iter().map(|row| row.cost).sum()
+}
+
+/// The budget of `H`, or the one that a `K` sets, for a request without a cycle.
+fn budget_in_force(draft: &Draft) -> u64 {
+    let Some(share) = draft.share else { return draft.budget.into() };
+    let heft = total(&placed_by(draft, |finish, cost| (finish, cost)));
+    let cheapest = cheapest_total(draft);
+    cheapest + u64::from(share) * (heft - cheapest) / 1_000
+}
+
+/// The two methods asked for alone: each task to the processor of its least key, whatever
+/// the budget, the deadline and a `K` say, and nothing left; or the refusal 8.
+fn check_alone(draft: &Draft) {
+    let request = draft.bytes();
+    let mut totals = [0; 2];
+    let methods: [(Method, fn(u64, u64) -> (u64, u64)); 2] = [
+        (Method::Cheapest, |finish, cost| (cost, finish)),
+        (Method::Heft, |finish, cost| (finish, cost)),
+    ];
+    for (of_method, (method, key)) in totals.iter_mut().zip(methods) {
+        let mut rows = [Row::default(); 64];
+        let answer = plan_by(method, &request, &mut rows);
+        let lines = text_by(method, &request).iter().filter(|&&byte| byte == b'\n').count();
+        let (n, length, cost) = match answer {
+            Answer::Planned { n, length, cost, left: 0 } => (n, length, cost),
+            Answer::Refused { number: 8, place } => {
+                assert!(on_a_cycle(draft, place as u8));
+                assert_eq!(range(&request), Err(Refusal { number: 8, place }));
+                assert_eq!(lines, 1);
+                return;
+            }
+            other => panic!("{other:?} for {draft:?}"),
+        };
+        assert_eq!(rows[..n as usize], placed_by(draft, key), "{method:?} of {draft:?}");
+        check_rows(draft, (n, length, cost), &rows);
+        assert_eq!(lines as u64, 1 + n);
+        *of_method = cost;
+    }
+    let [cheapest, heft] = totals;
+    assert_eq!(cheapest, cheapest_total(draft));
+    assert!(cheapest <= heft);
+    assert_eq!(range(&request), Ok(Costs { cheapest, heft }));
+    assert_eq!(range_text(&request), format!("range {cheapest} {heft}\n").into_bytes());
 }
 
 /// "Two intervals overlap when they have a minute in common": the later begin is
@@ -134,33 +210,40 @@ impl Met {
 }
 
 fn check_many(random: &mut Random, limits: &Limits, count: usize) {
-    let mut met = Met::default();
+    let (mut met, mut differ) = (Met::default(), 0);
     let mut sorts = Sorts::default();
-    for _ in 0..count {
+    for round in 0..count {
         let draft = draft(random, limits);
         let mut rows = [Row::default(); 64];
         let request = draft.bytes();
         let answer = plan(&request, &mut rows);
         check(&draft, answer, &rows);
+        if round % 5 == 0 {
+            check_alone(&draft);
+        }
         met.note(answer);
+        differ += u64::from(methods_differ(&request));
         if matches!(answer, Answer::Planned { .. }) {
             sorts.note(&request);
         }
     }
     met.at_least(20, &[0, 8, 9, 11]);
-    sorts.at_least(met.0[0], &[0, 6, 6, 4, 4, 3, 80, 200, 12, 150]);
+    println!("{differ} with another cheapest plan than HEFT plan");
+    assert!(differ >= count as u64 / 2, "{differ}");
+    sorts.at_least(met.0[0], &[0, 6, 6, 4, 4, 3, 80, 200, 12, 150, 30]);
 }
 
 /// Counts of plans of these sorts: with a task in a gap, with one that is billed a
 /// minimum, others without minimums, with a task that starts where a window ends,
 /// others without windows; with a marker, with one in the midst of a window, with one
-/// in the midst of a row, placed in another order than document 01's, others in that.
+/// in the midst of a row, placed in another order than document 01's, others in that;
+/// with a `K`, and neither the cheapest plan nor the HEFT plan.
 #[derive(Default)]
-struct Sorts([u64; 10]);
+struct Sorts([u64; 11]);
 
 impl Sorts {
     fn note(&mut self, request: &[u8]) {
-        let sorts: [fn(&[u8]) -> bool; 10] = [
+        let sorts: [fn(&[u8]) -> bool; 11] = [
             fills_a_gap,
             bills_a_minimum,
             turned_by_minimums,
@@ -171,6 +254,7 @@ impl Sorts {
             marker_in_a_row,
             ordered_anew,
             turned_by_order,
+            turned_by_share,
         ];
         for (count, sort) in self.0.iter_mut().zip(sorts) {
             *count += u64::from(sort(request));
@@ -178,7 +262,7 @@ impl Sorts {
     }
 
     /// One plan of so many is of each sort; 0 for any number.
-    fn at_least(&self, plans: u64, one_of: &[u64; 10]) {
+    fn at_least(&self, plans: u64, one_of: &[u64; 11]) {
         println!("{:?} of {plans}", self.0);
         let enough = |(&count, &one_of): (&u64, &u64)| one_of == 0 || count >= plans / one_of;
         assert!(self.0.iter().zip(one_of).all(enough), "{:?} of {plans}", self.0);
@@ -201,57 +285,70 @@ fn facts_of_full_plans() {
 /// window ends, and every third is another plan than without windows. Every third
 /// has a marker, one of 40 one in the midst of a window, one of 80 one in the midst
 /// of a row; one of eight is placed in another order than document 01's, and one of
-/// 40 is another plan in that.
+/// 40 is another plan in that. One of 30 has a `K` and is neither the cheapest plan
+/// nor the HEFT plan.
 #[test]
 fn facts_of_plans_of_every_shape() {
     let mut met = Met::default();
     let mut sorts = Sorts::default();
-    for draft in of_every_shape(0x600D_5EED_0000_0003, 3 * SHAPES) {
+    for (k, draft) in of_every_shape(0x600D_5EED_0000_0003, 3 * SHAPES).enumerate() {
         let mut rows = [Row::default(); 64];
         let request = draft.bytes();
         let answer = plan(&request, &mut rows);
         check(&draft, answer, &rows);
+        // A step that has no divisor with the number of any part of a shape.
+        if k % 5 == 0 {
+            check_alone(&draft);
+        }
         met.note(answer);
         if matches!(answer, Answer::Planned { .. }) {
             sorts.note(&request);
         }
     }
     met.at_least(200, &[0, 8, 9, 11]);
-    sorts.at_least(met.0[0], &[6, 6, 6, 4, 3, 3, 40, 80, 8, 40]);
+    sorts.at_least(met.0[0], &[6, 6, 6, 4, 3, 3, 40, 80, 8, 40, 30]);
 }
 
 /// Nine rounds of the shapes have each with each sort of windows, and one round has
-/// each sort of windows and of markers with each of the other parts.
+/// each sort of windows, of markers and of shares with each of the other parts.
 #[test]
 fn every_shape_with_every_sort_of_windows() {
     let rounds = WINDOWS.len() * SHAPES;
     let but_markers = |k: usize| {
-        let (graph, numbers, budget, deadline, least, down, _) = shape(k);
+        let (graph, numbers, budget, deadline, least, down, _, _) = shape(k);
         (graph, numbers, budget, deadline, least, down)
     };
     let all: HashSet<String> = (0..rounds).map(|k| format!("{:?}", but_markers(k))).collect();
     assert_eq!(all.len(), rounds);
     assert_eq!(but_markers(rounds), but_markers(0));
-    assert_eq!(shape(MARKERS.len() * rounds), shape(0));
+    assert_eq!(shape(MARKERS.len() * SHARES.len() * rounds), shape(0));
     let parts = |k: usize| {
-        let (graph, numbers, budget, deadline, least, down, without_time) = shape(k);
+        let (graph, numbers, budget, deadline, least, down, without_time, between) = shape(k);
         let (graph, numbers) = (format!("{graph:?}"), format!("{numbers:?}"));
         let (budget, deadline) = (format!("{budget:?}"), format!("{deadline:?}"));
         let (least, down) = (format!("{least:?}"), format!("{down:?}"));
-        ([graph, numbers, budget, deadline, least], down, format!("{without_time:?}"))
+        let without_time = format!("{without_time:?}");
+        ([graph, numbers, budget, deadline, least], down, without_time, format!("{between:?}"))
     };
     let (mut with_windows, mut with_markers) = (HashSet::new(), HashSet::new());
-    for (parts, down, without_time) in (0..SHAPES).map(parts) {
-        for (i, part) in parts.into_iter().chain([down.clone()]).enumerate() {
-            with_windows.insert((i, part.clone(), down.clone()));
-            with_markers.insert((i, part, without_time.clone()));
+    let mut with_shares = HashSet::new();
+    for (parts, down, without_time, between) in (0..SHAPES).map(parts) {
+        let with_down = parts.into_iter().chain([down.clone()]);
+        for (i, part) in with_down.chain([without_time.clone()]).enumerate() {
+            if i <= 5 {
+                with_windows.insert((i, part.clone(), down.clone()));
+                with_markers.insert((i, part.clone(), without_time.clone()));
+            }
+            with_shares.insert((i, part, between.clone()));
         }
     }
     let others = GRAPHS.len() + NUMBERS.len() + BUDGETS.len() + DEADLINES.len() + MINIMUMS.len();
     // Windows themselves are the last of the parts.
     assert_eq!(with_windows.len(), (others + 1) * WINDOWS.len());
-    let sorts: HashSet<String> = MARKERS.iter().map(|sort| format!("{sort:?}")).collect();
-    assert_eq!(with_markers.len(), (others + WINDOWS.len()) * sorts.len());
+    let markers: HashSet<String> = MARKERS.iter().map(|sort| format!("{sort:?}")).collect();
+    assert_eq!(with_markers.len(), (others + WINDOWS.len()) * markers.len());
+    let shares: HashSet<String> = SHARES.iter().map(|sort| format!("{sort:?}")).collect();
+    assert_eq!(with_shares.len(), (others + WINDOWS.len() + markers.len()) * shares.len());
 }
 
 /// "Once the cheapest total fits, I believe the cheapest processor can always
@@ -270,7 +367,8 @@ fn the_cheapest_processor_can_always_be_taken() {
         let (graph, numbers) = (random.one_of(graphs), random.one_of(&NUMBERS));
         let (least, down) = (random.one_of(&MINIMUMS), random.one_of(&WINDOWS));
         let without_time = random.one_of(&MARKERS);
-        let shape = (graph, numbers, Budget::Cheapest, Deadline::None, least, down, without_time);
+        let (budget, deadline) = (Budget::Cheapest, Deadline::None);
+        let shape = (graph, numbers, budget, deadline, least, down, without_time, Share::None);
         let mut draft = shaped(&mut random, (n, m), shape);
         let cheapest = cheapest_total(&draft);
         for more in [0, 1, random.within(2, cheapest + 2)] {
@@ -314,14 +412,21 @@ fn placed_again(draft: &Draft, rows: &[Row]) -> usize {
 
 /// Times and windows by a, prices by b, minimums and budget by both: the same
 /// processors, starts and finishes by a, costs by a x b; refusal 8 the same, 9 by
-/// a x b, 11 by a.
+/// a x b, 11 by a. "A `K` stays what it is: at 0 and at 1,000 the demand holds", and of
+/// the two other methods it holds with any.
 #[test]
 fn multiplied_requests() {
     let mut random = Random(0xA076_1D64_78BD_642F);
     let mut met = Met::default();
     let (mut billed, mut turned, mut marked, mut anew) = (0, 0, 0, 0);
+    let mut shared = [0; 2];
     for _ in 0..20_000 {
-        let draft = draft(&mut random, &SMALL);
+        let mut draft = draft(&mut random, &SMALL);
+        let any = draft.share;
+        if let Some(share) = &mut draft.share {
+            *share = random.one_of(&[0, 1_000]);
+            shared[usize::from(*share / 1_000)] += 1;
+        }
         let (a, b) = (random.within(1, 7), random.within(1, 7));
         let (mut rows, mut more) = ([Row::default(); 64], [Row::default(); 64]);
         let answer = plan(&draft.bytes(), &mut rows);
@@ -341,10 +446,27 @@ fn multiplied_requests() {
             }
         };
         assert_eq!(multiplied, expected);
-        for (row, more) in rows.iter().zip(&more) {
-            assert_eq!(more.processor, row.processor);
-            assert_eq!((more.start, more.finish), (row.start * a, row.finish * a));
-            assert_eq!(more.cost, row.cost * a * b);
+        let held = |rows: &[Row], more: &[Row]| {
+            for (row, more) in rows.iter().zip(more) {
+                assert_eq!(more.processor, row.processor);
+                assert_eq!((more.start, more.finish), (row.start * a, row.finish * a));
+                assert_eq!(more.cost, row.cost * a * b);
+            }
+        };
+        held(&rows, &more);
+        draft.share = any;
+        for method in [Method::Cheapest, Method::Heft] {
+            let (mut rows, mut more) = ([Row::default(); 64], [Row::default(); 64]);
+            let answer = plan_by(method, &draft.bytes(), &mut rows);
+            let expected = match answer {
+                Answer::Planned { n, length, cost, left: 0 } => {
+                    Answer::Planned { n, length: length * a, cost: cost * a * b, left: 0 }
+                }
+                same => same,
+            };
+            let multiplied = draft.times(a as u8, b as u8).bytes();
+            assert_eq!(plan_by(method, &multiplied, &mut more), expected);
+            held(&rows, &more);
         }
         met.note(answer);
         billed += u64::from(bills_a_minimum(&draft.bytes()));
@@ -356,6 +478,78 @@ fn multiplied_requests() {
     assert!(billed >= 5_000, "{billed}");
     assert!(turned >= 5_000, "{turned}");
     assert!(marked >= 5_000 && anew >= 1_000, "{marked} {anew}");
+    assert!(shared.iter().all(|&shared| shared >= 2_000), "{shared:?}");
+}
+
+/// "So at 0 the budget is the cheapest total, and at 1,000 the HEFT plan's cost; 9 cannot
+/// come with `K`." At 0 the plan costs just that; and with any share it is the plan that
+/// `H` gives with the budget that the share sets.
+#[test]
+fn shares_of_the_range() {
+    let mut random = Random(0x0A7A_5EED_0000_0001);
+    let (mut met, mut wide) = (Met::default(), 0);
+    for round in 0..10_000 {
+        let limits = if round % 10 == 0 { &FULL } else { &SMALL };
+        let draft = draft(&mut random, limits);
+        let Ok(Costs { cheapest, heft }) = range(&draft.bytes()) else { continue };
+        wide += u64::from(heft - cheapest >= 2);
+        let between = random.within(1, 999);
+        for share in [0, 1, between, 999, 1_000] {
+            let shared = draft.clone().with_share(share as u16);
+            let budget = match share {
+                0 => cheapest,
+                1_000 => heft,
+                share => cheapest + (heft - cheapest) * share / 1_000,
+            };
+            assert_eq!(compare::budget(&read(&shared.bytes()).unwrap()), Some(budget));
+            let mut rows = [Row::default(); 64];
+            let answer = plan(&shared.bytes(), &mut rows);
+            match answer {
+                Answer::Planned { cost, left, .. } => {
+                    assert_eq!(cost + left, budget);
+                    assert!(share != 0 || cost == cheapest, "{shared:?}");
+                }
+                Answer::Refused { number, .. } => assert_eq!(number, 11),
+            }
+            let given = Draft { share: None, budget: budget as u32, ..shared };
+            let mut as_given = [Row::default(); 64];
+            assert_eq!(plan(&given.bytes(), &mut as_given), answer);
+            assert_eq!(rows, as_given);
+            met.note(answer);
+        }
+    }
+    met.at_least(1_000, &[0, 11]);
+    assert!(wide >= 5_000, "{wide}");
+}
+
+/// The two methods asked for alone, and the range, with any budget, deadline and share:
+/// none of these changes anything. A damaged request gets the refusal of reading.
+#[test]
+fn alone_nothing_is_held_against_them() {
+    let mut random = Random(0x0A7A_5EED_0000_0002);
+    for _ in 0..5_000 {
+        let draft = draft(&mut random, &SMALL);
+        let alone = |request: &[u8]| {
+            let texts = [Method::Cheapest, Method::Heft].map(|method| text_by(method, request));
+            (texts, range_text(request))
+        };
+        let expected =
+            alone(&Draft { budget: 0, share: None, deadline: None, ..draft.clone() }.bytes());
+        let deadline = random.one_of(&[None, Some(1), Some(200_000)]);
+        let budget = random.one_of(&[0, 1, 20_000_000]);
+        let other = Draft { budget, share: None, deadline, ..draft.clone() };
+        assert_eq!(alone(&other.bytes()), expected, "{other:?}");
+        let share = random.within(0, 1_000) as u16;
+        let other = Draft { deadline, ..draft.with_share(share) };
+        assert_eq!(alone(&other.bytes()), expected, "{other:?}");
+
+        let mut request = other.bytes();
+        damage(&mut random, &mut request);
+        if let Err(Refusal { number, place }) = read(&request) {
+            let no = format!("no {number} {place}\n").into_bytes();
+            assert_eq!(alone(&request), ([no.clone(), no.clone()], no));
+        }
+    }
 }
 
 /// A first and a last task that take no time, with any numbers and transfer 0 on
@@ -595,6 +789,34 @@ fn lists_of_windows() {
     assert!(met.iter().all(|&count| count >= 500), "{met:?}");
 }
 
+/// Damage to a `K` alone: what is refused at one, and what at a `D` behind one.
+#[test]
+fn damaged_shares() {
+    let mut random = Random(0x0A7A_5EED_0000_0003);
+    let (mut met, mut met_at_k, mut met_at_d) = (Met::default(), Met::default(), Met::default());
+    for round in 0..20_000 {
+        let limits = if round % 10 == 0 { &FULL } else { &SMALL };
+        let mut request = draft(&mut random, limits).bytes();
+        let kinds = [Damage::Share, Damage::Share, Damage::OutOfRange, Damage::Doubled];
+        random.one_of(&kinds).to(&mut random, &mut request);
+        if random.one_in(8) {
+            request.truncate(random.within(0, request.len().min(16) as u64) as usize);
+        }
+        let answer = plan(&request, &mut [Row::default(); 64]);
+        if let Answer::Refused { number: 1..=6, place } = answer {
+            match request.get(place as usize) {
+                Some(b'K') => met_at_k.note(answer),
+                Some(b'D') => met_at_d.note(answer),
+                _ => {}
+            }
+        }
+        met.note(answer);
+    }
+    met.at_least(40, &[0, 1, 2, 3, 4, 5, 8, 9, 11]);
+    met_at_k.at_least(40, &[1, 2, 4]);
+    met_at_d.at_least(40, &[2]);
+}
+
 /// Damage to windows alone: what is refused at an `M`, and that all of 1 to 4 are.
 #[test]
 fn damaged_windows() {
@@ -655,6 +877,7 @@ fn damaged_requests() {
     let mut random = Random(0xE703_7ED1_A0B4_28DB);
     let mut met = Met::default();
     let (mut met_at_q, mut met_at_m) = (Met::default(), Met::default());
+    let mut met_at_k = Met::default();
     for round in 0..30_000 {
         let limits = if round % 10 == 0 { &FULL } else { &SMALL };
         let mut request = draft(&mut random, limits).bytes();
@@ -664,8 +887,11 @@ fn damaged_requests() {
         let answer = plan(&request, &mut rows[..lent]);
         let written = match answer {
             Answer::Planned { n, cost, left, .. } => {
+                let workflow = read(&request).unwrap();
+                assert_eq!(Some(cost + left), compare::budget(&workflow));
                 let budget = u32::from_le_bytes(request[3..7].try_into().unwrap());
-                assert_eq!(cost + left, u64::from(budget));
+                assert_eq!(workflow.budget, budget);
+                assert!(workflow.share.is_none() || budget == 0);
                 assert_eq!(n, u64::from(request[1]));
                 n as usize
             }
@@ -676,6 +902,7 @@ fn damaged_requests() {
                 match request.get(place as usize) {
                     Some(b'Q') if in_reading => met_at_q.note(answer),
                     Some(b'M') if in_reading => met_at_m.note(answer),
+                    Some(b'K') if in_reading => met_at_k.note(answer),
                     _ => {}
                 }
                 0
@@ -695,6 +922,7 @@ fn damaged_requests() {
     met.at_least(20, &REFUSALS);
     met_at_q.at_least(5, &[1, 2, 3, 4]);
     met_at_m.at_least(5, &[1, 2, 3, 4]);
+    met_at_k.at_least(5, &[1, 4]);
 }
 
 #[test]
@@ -703,10 +931,11 @@ fn bytes_without_sense() {
     for _ in 0..20_000 {
         let length = random.within(0, 200) as usize;
         let mut request: Vec<u8> =
-            (0..length).map(|_| random.one_of(b"HDPQMTWEZ\0\x01\x02 a")).collect();
-        match random.within(1, 5) {
+            (0..length).map(|_| random.one_of(b"HDKPQMTWEZ\0\x01\x02 a")).collect();
+        match random.within(1, 6) {
             1 => drop(request.splice(..0, *b"H\x01\x01\0\0\0\0P\0\0")),
             2 => drop(request.splice(..0, *b"H\x01\x01\0\0\0\0Q\0\0\x10\x27")),
+            4 => drop(request.splice(..0, *b"H\x01\x01\0\0\0\0K\xe8\x03P\0\0")),
             3 => drop(request.splice(..0, *b"H\x01\x01\0\0\0\0P\0\0M\0\0\0\0\0\x20\x4e\0\0")),
             _ => {}
         }
