@@ -5,7 +5,7 @@ use std::fmt::Write as _;
 use std::io::{self, Read, Write as _};
 use std::{env, fs, process};
 
-use compare::{read, Refusal};
+use compare::{budget, range, read, Costs, Refusal, Workflow};
 
 fn main() {
     let words: Vec<String> = env::args().skip(1).collect();
@@ -30,15 +30,20 @@ fn main() {
 
 /// The whole description.
 fn described(request: &[u8]) -> String {
-    let refusal = read(request).err();
+    let good = read(request);
+    let refusal = good.as_ref().err();
     let mut out = String::new();
     let mut at = 0;
     while at < request.len() {
         let end = request.len().min(at + size(request[at]));
-        let stops = refusal.as_ref().is_some_and(|refusal| refusal.place as usize == at);
+        let stops = refusal.is_some_and(|refusal| refusal.place as usize == at);
         let mark = if stops { ">>" } else { "  " };
         let text = record(&request[at..end]);
-        let more = if is_marker(request, at) { ", a marker" } else { "" };
+        let more = match (&good, request[at]) {
+            (Ok(workflow), b'K') => of_the_range(request, workflow),
+            _ if is_marker(request, at) => ", a marker".to_string(),
+            _ => String::new(),
+        };
         writeln!(out, "{mark}{at:6}  {text}{more}").expect("a string takes all");
         at = end;
         if stops {
@@ -50,7 +55,7 @@ fn described(request: &[u8]) -> String {
         None => writeln!(out, "A good request of {length} bytes."),
         Some(Refusal { number, place }) => {
             let rest = length - at;
-            let why = reason(number);
+            let why = reason(*number);
             writeln!(out, "Reading stops at byte {place} with refusal {number}: {why}.").and_then(
                 |()| match rest {
                     0 => Ok(()),
@@ -63,12 +68,22 @@ fn described(request: &[u8]) -> String {
     out
 }
 
+/// What a share is of, and the budget that it sets.
+fn of_the_range(request: &[u8], workflow: &Workflow) -> String {
+    match (range(request), budget(workflow)) {
+        (Ok(Costs { cheapest, heft }), Some(budget)) => {
+            format!(" of the range {cheapest} to {heft}: budget {budget}")
+        }
+        _ => " of no range, for the edges have a cycle".to_string(),
+    }
+}
+
 /// Bytes of a record of this kind, with the kind byte; 1 for a byte that is no kind.
 fn size(kind: u8) -> usize {
     match kind {
         b'H' => 7,
         b'D' | b'Q' | b'W' | b'E' => 5,
-        b'P' => 3,
+        b'K' | b'P' => 3,
         b'M' | b'T' => 10,
         _ => 1,
     }
@@ -96,6 +111,7 @@ fn record(bytes: &[u8]) -> String {
     match bytes[0] {
         b'H' => format!("H  {} tasks, {} processors, budget {}", bytes[1], bytes[2], four(3)),
         b'D' => format!("D  deadline {}", four(1)),
+        b'K' => format!("K  a share of {} thousandths", two(1)),
         b'P' => format!("P  processor {}, price {}", bytes[1], bytes[2]),
         b'Q' => {
             format!("Q  processor {}, price {}, minimum {}", bytes[1], bytes[2], two(3))
@@ -117,7 +133,7 @@ fn reason(number: u64) -> &'static str {
         1 => "the input ends before this record is whole",
         2 => "another record is due here",
         3 => "another number is due here, or the edge or window is out of order",
-        4 => "a number is out of its range, or this is the 513th edge or a fifth window",
+        4 => "a number is out of its range, or this is the 513th edge, a fifth window or a share beside a budget that is not 0",
         5 => "the label is not 1 to 8 bytes of the list and then spaces",
         6 => "there are bytes after the end",
         _ => unreachable!("reading refuses with 1 to 6"),
@@ -154,6 +170,41 @@ mod tests {
 
         let text = described(&draft.bytes()[..14]);
         assert!(text.contains(">>    10  Q  cut short: 4 of 5 bytes\n"), "{text}");
+    }
+
+    #[test]
+    fn a_share() {
+        let draft = sample(0).with_share(667);
+        let text = described(&draft.bytes());
+        assert!(text.starts_with("       0  H  3 tasks, 2 processors, budget 0\n"), "{text}");
+        let line = "       7  K  a share of 667 thousandths of the range 24 to 30: budget 28\n";
+        assert!(text.contains(line), "{text}");
+        assert!(text.contains("      10  P  processor 0, price 1\n"), "{text}");
+        assert!(text.ends_with("      86  Z  end\nA good request of 87 bytes.\n"), "{text}");
+
+        let text = described(&Draft { deadline: Some(14), ..draft.clone() }.bytes());
+        assert!(text.contains("       7  D  deadline 14\n      12  K  a share of 667 "), "{text}");
+
+        let mut cyclic = draft.clone();
+        cyclic.edges.push((1, 0, 0));
+        let line = "K  a share of 667 thousandths of no range, for the edges have a cycle\n";
+        assert!(described(&cyclic.bytes()).contains(line));
+
+        // Out of its range, beside a budget, cut, and in a request that is refused behind it.
+        let text = described(&draft.clone().with_share(1_001).bytes());
+        assert!(text.contains(">>     7  K  a share of 1001 thousandths\n"), "{text}");
+        assert!(text.contains("Reading stops at byte 7 with refusal 4"), "{text}");
+        assert!(text.ends_with("The 77 bytes from 10 on were not read.\n"), "{text}");
+        let text = described(&Draft { budget: 28, ..draft.clone() }.bytes());
+        assert!(text.contains(">>     7  K  a share of 667 thousandths\n"), "{text}");
+        assert!(text.contains("a share beside a budget that is not 0.\n"), "{text}");
+        let text = described(&draft.bytes()[..9]);
+        assert!(text.contains(">>     7  K  cut short: 2 of 3 bytes\n"), "{text}");
+        let text = described(&draft.bytes()[..12]);
+        assert!(
+            text.contains("       7  K  a share of 667 thousandths\n>>    10  P  cut"),
+            "{text}"
+        );
     }
 
     #[test]
