@@ -6,12 +6,17 @@
    stack, from its return address down; the arguments that stand in the caller's frame are not counted. That is added up from the compiled frames and measured,
    not proved, and holds for the library as this version of the kit compiles it:
 
-    zabgurin_plan       8,168 bytes
-    zabgurin_print     10,392 bytes
-    zabgurin_label        584 bytes
-    zabgurin_read         536 bytes
-    zabgurin_label_len     40 bytes
-    zabgurin_listed         8 bytes
+    zabgurin_plan             8,168 bytes
+    zabgurin_cheapest             0 bytes
+    zabgurin_heft                 0 bytes
+    zabgurin_range                0 bytes
+    zabgurin_print           10,392 bytes
+    zabgurin_print_cheapest       0 bytes
+    zabgurin_print_heft           0 bytes
+    zabgurin_label              584 bytes
+    zabgurin_read               536 bytes
+    zabgurin_label_len           40 bytes
+    zabgurin_listed               8 bytes
 
    The return address of memcpy and memset is in it; what they take besides is the C library's, and those that were tried take nothing. In a program that looks
    for shared functions when they are first called (one linked without -z now), the first call of them may take some kilobytes more, 3,152 bytes where it was
@@ -39,7 +44,7 @@ enum { ZABGURIN_MOST_TEXT = 2145 };
 
 /* A request that passes reading has at most so many bytes; a longer one is refused with 1 to 6. What comes after the first 16,384 bytes changes no answer, so a buffer of
    that size will do for any input. */
-enum { ZABGURIN_MOST_REQUEST = 9053 };
+enum { ZABGURIN_MOST_REQUEST = 9056 };
 
 /* How a request is answered. number is 0 for a plan: then the plan has `tasks` rows, ends at minute `length`, costs `cost` and leaves `left` of the budget, and
    place is 0. Else number is that of the refusal, 1 to 9 or 11, with its place, and the other four are 0:
@@ -48,7 +53,8 @@ enum { ZABGURIN_MOST_REQUEST = 9053 };
     1   the input ends too early                                   offset of the record that is not whole
     2   another record is due                                      offset of the record
     3   another number is due, or an edge or window out of order   offset of the record
-    4   a number out of its range, a 513th edge or a fifth window  offset of the record
+    4   a number out of its range, a 513th edge, a fifth window,   offset of the record
+        or a share beside a budget that is not 0
     5   a bad label                                                offset of the task's record
     6   bytes after the end                                        offset of the first of them
     7   fewer rows lent than there are tasks                       the number of tasks
@@ -71,10 +77,31 @@ struct zabgurin_answer {
 struct zabgurin_answer zabgurin_plan(const uint8_t *request, size_t request_len, uint64_t *processors, size_t processors_len, uint64_t *starts,
                                      size_t starts_len, uint64_t *finishes, size_t finishes_len, uint64_t *costs, size_t costs_len);
 
+/* The same by one of two other methods, asked for alone: the cheapest plan, in which each task goes where it costs the least, and the plain HEFT plan, in which it goes where
+   it is finished first. No budget and no deadline is held against them, so that number is 0 to 8, and left is always 0. */
+struct zabgurin_answer zabgurin_cheapest(const uint8_t *request, size_t request_len, uint64_t *processors, size_t processors_len, uint64_t *starts,
+                                         size_t starts_len, uint64_t *finishes, size_t finishes_len, uint64_t *costs, size_t costs_len);
+struct zabgurin_answer zabgurin_heft(const uint8_t *request, size_t request_len, uint64_t *processors, size_t processors_len, uint64_t *starts,
+                                     size_t starts_len, uint64_t *finishes, size_t finishes_len, uint64_t *costs, size_t costs_len);
+
+/* What these two plans cost, with 64 rows lent: the range that a share in a request is of. number is 0, and place too; or it is that of the refusal that both get, 1 to 6 or 8, with
+   its place, and both costs are 0. */
+struct zabgurin_costs {
+    uint64_t number;
+    uint64_t place;
+    uint64_t cheapest;
+    uint64_t heft;
+};
+struct zabgurin_costs zabgurin_range(const uint8_t *request, size_t request_len);
+
 /* Prints the plan of a request as text, with 64 rows lent: `plan`, tasks, length, cost and budget left, then a line for each task with its label, processor, start,
    finish and cost; or `no`, number and place. The answer is the number of the text's bytes. Where text_len is at least that, they stand at the front of `text` and the
    bytes after them stay as they were; where it is less, nothing is written. There is no 0 at the end. */
 size_t zabgurin_print(const uint8_t *request, size_t request_len, uint8_t *text, size_t text_len);
+
+/* The same of the cheapest plan, and of the HEFT plan. */
+size_t zabgurin_print_cheapest(const uint8_t *request, size_t request_len, uint8_t *text, size_t text_len);
+size_t zabgurin_print_heft(const uint8_t *request, size_t request_len, uint8_t *text, size_t text_len);
 
 /* A part of the request: length bytes, from the offset begin on. */
 struct zabgurin_part {
@@ -89,6 +116,8 @@ struct zabgurin_part zabgurin_label(const uint8_t *request, size_t request_len, 
 /* What reading a request says. number is 0 for a good request, with its numbers (a deadline of 0 is none) and the offsets at which its parts begin: the records of the
    processors, the windows, or the tasks where there are none, the tasks, and the edges, or the end where there are none. Else number is that of the refusal, 1 to 6, with its place, and all else is 0.
 
+   share_given is 1 where the budget is set by a share, in thousandths, and then budget is 0; else share_given and share are 0.
+
    The processors' records stand from prices_at on in the order of the processors, for each a P of 3 bytes or a Q of 5. So the record of a processor is found from the one
    before it, by its letter. The windows, each an M of 10 bytes, stand by rising processor, and those of one processor by rising begin. */
 struct zabgurin_reading {
@@ -98,6 +127,8 @@ struct zabgurin_reading {
     size_t processors;
     uint64_t budget;
     uint64_t deadline;
+    uint64_t share_given;
+    uint64_t share;
     size_t prices_at;
     size_t windows_at;
     size_t windows;

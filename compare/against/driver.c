@@ -31,7 +31,16 @@ int pthread_attr_setstack(union attributes *attributes, void *stack, word length
 int pthread_create(word *thread, const union attributes *attributes, void *(*run)(void *), void *argument);
 int pthread_join(word thread, void **result);
 
-enum { LISTED, LABEL_LEN, READ, LABEL, PLAN, PRINT, NOTHING, DEEPEST, TAKEN };
+enum { LISTED, LABEL_LEN, READ, LABEL, PLAN, CHEAPEST, HEFT, PRINT, PRINT_CHEAPEST, PRINT_HEFT, RANGE, NOTHING, DEEPEST, TAKEN };
+// The planners and the printers have the same arguments. Which of them a question asks, if one.
+typedef struct zabgurin_answer planner(const byte *, word, word *, word, word *, word, word *, word, word *, word);
+typedef word printer(const byte *, word, byte *, word);
+static planner *planner_of(word kind) {
+    return kind == PLAN ? zabgurin_plan : kind == CHEAPEST ? zabgurin_cheapest : kind == HEFT ? zabgurin_heft : 0;
+}
+static printer *printer_of(word kind) {
+    return kind == PRINT ? zabgurin_print : kind == PRINT_CHEAPEST ? zabgurin_print_cheapest : kind == PRINT_HEFT ? zabgurin_print_heft : 0;
+}
 // How the program ends where it does not end well.
 enum { CUT_INPUT = 10, BAD_INPUT, NO_OUTPUT, NO_MEMORY, WRITTEN_TO, NO_THREAD };
 // The poison before a slice, and what memory is taken in: no smaller than a page.
@@ -159,9 +168,9 @@ static struct lent lend(word lengths) {
 }
 
 // Asks for a plan in buffers of so many numbers. The answer's words are followed by those of each buffer.
-static void plan(struct buffer *answers, const byte *slice, word length, word lengths) {
+static void plan(struct buffer *answers, planner *by, const byte *slice, word length, word lengths) {
     struct lent to = lend(lengths);
-    struct zabgurin_answer answer = zabgurin_plan(slice, length, to.at[0], to.length[0], to.at[1], to.length[1], to.at[2], to.length[2], to.at[3], to.length[3]);
+    struct zabgurin_answer answer = by(slice, length, to.at[0], to.length[0], to.at[1], to.length[1], to.at[2], to.length[2], to.at[3], to.length[3]);
     put(answers, &answer, sizeof answer);
     for (word b = 0; b < BUFFERS; b++) {
         check_poison((byte *)to.at[b]);
@@ -182,9 +191,9 @@ static byte *lend_room(word room) {
 }
 
 // Asks for the text with so much room for it. The answer's word is followed by the bytes of the room, each as a word.
-static void print(struct buffer *answers, const byte *slice, word length, word room) {
+static void print(struct buffer *answers, printer *by, const byte *slice, word length, word room) {
     byte *text = lend_room(room);
-    word answer = zabgurin_print(slice, length, text, room);
+    word answer = by(slice, length, text, room);
     put(answers, &answer, sizeof answer);
     check_poison(text);
     for (word k = 0; k < room; k++) {
@@ -195,14 +204,22 @@ static void print(struct buffer *answers, const byte *slice, word length, word r
 
 // What comes back for no request and no buffers, all of them null.
 static void nothing(struct buffer *answers) {
-    struct zabgurin_answer answer = zabgurin_plan(0, 0, 0, 0, 0, 0, 0, 0, 0, 0);
-    put(answers, &answer, sizeof answer);
+    for (word kind = PLAN; kind <= HEFT; kind++) {
+        struct zabgurin_answer answer = planner_of(kind)(0, 0, 0, 0, 0, 0, 0, 0, 0, 0);
+        put(answers, &answer, sizeof answer);
+    }
+    struct zabgurin_costs costs = zabgurin_range(0, 0);
+    put(answers, &costs, sizeof costs);
     struct zabgurin_reading reading = zabgurin_read(0, 0);
     put(answers, &reading, sizeof reading);
     struct zabgurin_part part = zabgurin_label(0, 0, 0);
     put(answers, &part, sizeof part);
-    word lengths[2] = {zabgurin_print(0, 0, 0, 0), zabgurin_label_len(0, 0, 0)};
-    put(answers, lengths, sizeof lengths);
+    for (word kind = PRINT; kind <= PRINT_HEFT; kind++) {
+        word text = printer_of(kind)(0, 0, 0, 0);
+        put(answers, &text, sizeof text);
+    }
+    word len = zabgurin_label_len(0, 0, 0);
+    put(answers, &len, sizeof len);
 }
 
 // The stack that all runs on, with memory below it that nothing can reach. It is full of paint at first.
@@ -240,7 +257,8 @@ __asm__(".pushsection .text\n"
         "    mov %r11, %rcx\n"
         "    jmp *function(%rip)\n"
         ".popsection\n");
-#define MEASURED(name) (function = (void (*)(void))name, (__typeof__(&name))measured)
+#define MEASURED_AS(type, name) (function = (void (*)(void))(name), (type)measured)
+#define MEASURED(name) MEASURED_AS(__typeof__(&name), name)
 
 // Makes a call of the kind that a question has, and gives the first word of its answer; a label's length. A plan has four buffers of the same length.
 static word call(const byte *slice, word length, word kind, word argument) {
@@ -252,12 +270,14 @@ static word call(const byte *slice, word length, word kind, word argument) {
         return MEASURED(zabgurin_read)(slice, length).number;
     if (kind == LABEL)
         return MEASURED(zabgurin_label)(slice, length, argument).length;
-    if (kind == PRINT)
-        return MEASURED(zabgurin_print)(slice, length, lend_room(argument), argument);
-    if (kind != PLAN)
+    if (kind == RANGE)
+        return MEASURED(zabgurin_range)(slice, length).number;
+    if (printer_of(kind))
+        return MEASURED_AS(printer *, printer_of(kind))(slice, length, lend_room(argument), argument);
+    if (!planner_of(kind))
         _exit(BAD_INPUT);
     struct lent to = lend(argument * 0x0001000100010001);
-    return MEASURED(zabgurin_plan)(slice, length, to.at[0], to.length[0], to.at[1], to.length[1], to.at[2], to.length[2], to.at[3], to.length[3]).number;
+    return MEASURED_AS(planner *, planner_of(kind))(slice, length, to.at[0], to.length[0], to.at[1], to.length[1], to.at[2], to.length[2], to.at[3], to.length[3]).number;
 }
 
 // How many bytes of stack a call takes: from the lowest that it changes up to its return address. That is counted, and so is what memcpy and memset of the C
@@ -296,10 +316,13 @@ static void answer(struct buffer *answers, const byte *slice, word length, word 
     } else if (kind == LABEL) {
         struct zabgurin_part part = zabgurin_label(slice, length, argument);
         put(answers, &part, sizeof part);
-    } else if (kind == PLAN) {
-        plan(answers, slice, length, argument);
-    } else if (kind == PRINT) {
-        print(answers, slice, length, argument);
+    } else if (planner_of(kind)) {
+        plan(answers, planner_of(kind), slice, length, argument);
+    } else if (printer_of(kind)) {
+        print(answers, printer_of(kind), slice, length, argument);
+    } else if (kind == RANGE) {
+        struct zabgurin_costs costs = zabgurin_range(slice, length);
+        put(answers, &costs, sizeof costs);
     } else if (kind == NOTHING) {
         nothing(answers);
     } else if (kind == DEEPEST) {

@@ -1,6 +1,7 @@
 //! Plans for workflows on rented machines: a request of bytes is answered with a plan, a machine and a start for every task, or with one numbered refusal
 //! and its place. The functions that do it are proved; this is a thin and safe way to call them. Each is defined for every slice, so nothing has to be checked first.
-//! How much stack a call takes stands in include/zabgurin.h; `plan` takes 2 KiB more. Only `plan` and `text` use the heap, for what they return.
+//! How much stack a call takes stands in include/zabgurin.h; `plan`, `cheapest` and `heft` take 2 KiB more. Only these three, and `text` and its like, use the heap, for what
+//! they return.
 //!
 //! ```
 //! let request = std::fs::read("samples/s28.request")?;
@@ -17,7 +18,7 @@ pub const MOST_TASKS: usize = 64;
 pub const MOST_TEXT: usize = 2_145;
 
 /// A request that passes reading has at most so many bytes; a longer one is refused with 1 to 6. What comes after the first 16,384 bytes changes no answer.
-pub const MOST_REQUEST: usize = 9_053;
+pub const MOST_REQUEST: usize = 9_056;
 
 /// Where a task runs, from when to when, and what it costs. A task of 0 minutes there starts and is finished at one minute, which may be in the midst of another row or of a window.
 #[derive(Clone, Copy, Debug, Default, PartialEq, Eq)]
@@ -53,18 +54,16 @@ pub struct Refusal {
     pub place: u64,
 }
 
+/// What the cheapest plan and the HEFT plan cost.
+#[derive(Clone, Copy, Debug, PartialEq, Eq)]
+pub struct Costs {
+    pub cheapest: u64,
+    pub heft: u64,
+}
+
 /// Plans a request.
 pub fn plan(request: &[u8]) -> Result<Plan, Refusal> {
-    let mut columns = [[0; MOST_TASKS]; 4];
-    let [processors, starts, finishes, costs] = &mut columns;
-    let summary = plan_into(request, processors, starts, finishes, costs)?;
-    let row = |i: usize| Row {
-        processor: processors[i],
-        start: starts[i],
-        finish: finishes[i],
-        cost: costs[i],
-    };
-    Ok(Plan { summary, rows: (0..summary.tasks as usize).map(row).collect() })
+    planned(proved::zabgurin_plan, request)
 }
 
 /// Plans a request into four buffers: row i in the numbers at i. As many rows are lent as the shortest buffer has numbers. A plan writes rows 0 to n-1 and keeps
@@ -76,10 +75,110 @@ pub fn plan_into(
     finishes: &mut [u64],
     costs: &mut [u64],
 ) -> Result<Summary, Refusal> {
+    planned_into(proved::zabgurin_plan, request, processors, starts, finishes, costs)
+}
+
+/// The cheapest plan, asked for alone: each task goes where it costs the least. No budget and no deadline is held against it; a refusal is one of 1 to 8, and 0 is left.
+pub fn cheapest(request: &[u8]) -> Result<Plan, Refusal> {
+    planned(proved::zabgurin_cheapest, request)
+}
+
+/// The same into four buffers, as [`plan_into`].
+pub fn cheapest_into(
+    request: &[u8],
+    processors: &mut [u64],
+    starts: &mut [u64],
+    finishes: &mut [u64],
+    costs: &mut [u64],
+) -> Result<Summary, Refusal> {
+    planned_into(proved::zabgurin_cheapest, request, processors, starts, finishes, costs)
+}
+
+/// The plain HEFT plan, asked for alone: each task goes where it is finished first. No budget and no deadline is held against it; a refusal is one of 1 to 8, and 0 is left.
+pub fn heft(request: &[u8]) -> Result<Plan, Refusal> {
+    planned(proved::zabgurin_heft, request)
+}
+
+/// The same into four buffers, as [`plan_into`].
+pub fn heft_into(
+    request: &[u8],
+    processors: &mut [u64],
+    starts: &mut [u64],
+    finishes: &mut [u64],
+    costs: &mut [u64],
+) -> Result<Summary, Refusal> {
+    planned_into(proved::zabgurin_heft, request, processors, starts, finishes, costs)
+}
+
+/// What the cheapest plan and the HEFT plan of a request cost, the range that a share is of; or the refusal that both get, 1 to 6 or 8.
+pub fn range(request: &[u8]) -> Result<Costs, Refusal> {
+    let mut costs = proved::Costs::default();
+    // SAFETY: the pointer and the length are one slice's, which is only read, and only during the call; the costs are written.
+    unsafe { proved::zabgurin_range(&mut costs, request.as_ptr(), request.len()) };
+    let proved::Costs { number, place, cheapest, heft } = costs;
+    if number == 0 {
+        Ok(Costs { cheapest, heft })
+    } else {
+        Err(Refusal { number, place })
+    }
+}
+
+/// Prints the plan, or the refusal, into a buffer: the number of bytes. Where the buffer is too small it keeps its content, and the error is the number of bytes wanted.
+pub fn print(request: &[u8], text: &mut [u8]) -> Result<usize, usize> {
+    printed(proved::zabgurin_print, request, text)
+}
+
+/// Prints the cheapest plan likewise.
+pub fn print_cheapest(request: &[u8], text: &mut [u8]) -> Result<usize, usize> {
+    printed(proved::zabgurin_print_cheapest, request, text)
+}
+
+/// Prints the HEFT plan likewise.
+pub fn print_heft(request: &[u8], text: &mut [u8]) -> Result<usize, usize> {
+    printed(proved::zabgurin_print_heft, request, text)
+}
+
+/// The printed plan, or the refusal.
+pub fn text(request: &[u8]) -> Vec<u8> {
+    texted(proved::zabgurin_print, request)
+}
+
+/// The printed cheapest plan, or the refusal.
+pub fn text_cheapest(request: &[u8]) -> Vec<u8> {
+    texted(proved::zabgurin_print_cheapest, request)
+}
+
+/// The printed HEFT plan, or the refusal.
+pub fn text_heft(request: &[u8]) -> Vec<u8> {
+    texted(proved::zabgurin_print_heft, request)
+}
+
+/// The plan by one of the proved planners.
+fn planned(planner: proved::Planner, request: &[u8]) -> Result<Plan, Refusal> {
+    let mut columns = [[0; MOST_TASKS]; 4];
+    let [processors, starts, finishes, costs] = &mut columns;
+    let summary = planned_into(planner, request, processors, starts, finishes, costs)?;
+    let row = |i: usize| Row {
+        processor: processors[i],
+        start: starts[i],
+        finish: finishes[i],
+        cost: costs[i],
+    };
+    Ok(Plan { summary, rows: (0..summary.tasks as usize).map(row).collect() })
+}
+
+fn planned_into(
+    planner: proved::Planner,
+    request: &[u8],
+    processors: &mut [u64],
+    starts: &mut [u64],
+    finishes: &mut [u64],
+    costs: &mut [u64],
+) -> Result<Summary, Refusal> {
     let mut answer = proved::Answer::default();
     // SAFETY: each pointer and length are one slice's; the first is only read, the other four are lent to this call alone, and the answer is written.
     unsafe {
-        proved::zabgurin_plan(
+        planner(
             &mut answer,
             request.as_ptr(),
             request.len(),
@@ -101,12 +200,10 @@ pub fn plan_into(
     }
 }
 
-/// Prints the plan, or the refusal, into a buffer: the number of bytes. Where the buffer is too small it keeps its content, and the error is the number of bytes wanted.
-pub fn print(request: &[u8], text: &mut [u8]) -> Result<usize, usize> {
+/// The text by one of the proved printers.
+fn printed(printer: proved::Printer, request: &[u8], text: &mut [u8]) -> Result<usize, usize> {
     // SAFETY: each pointer and length are one slice's; the first is only read, the other is lent to this call alone.
-    let length = unsafe {
-        proved::zabgurin_print(request.as_ptr(), request.len(), text.as_mut_ptr(), text.len())
-    };
+    let length = unsafe { printer(request.as_ptr(), request.len(), text.as_mut_ptr(), text.len()) };
     if length <= text.len() {
         Ok(length)
     } else {
@@ -114,10 +211,9 @@ pub fn print(request: &[u8], text: &mut [u8]) -> Result<usize, usize> {
     }
 }
 
-/// The printed plan, or the refusal.
-pub fn text(request: &[u8]) -> Vec<u8> {
+fn texted(printer: proved::Printer, request: &[u8]) -> Vec<u8> {
     let mut text = vec![0; MOST_TEXT];
-    let length = print(request, &mut text).expect("the largest text fits");
+    let length = printed(printer, request, &mut text).expect("the largest text fits");
     text.truncate(length);
     text
 }
@@ -141,9 +237,14 @@ pub struct Reading {
     pub place: usize,
     pub tasks: usize,
     pub processors: usize,
+    /// What the header says; 0 where a share sets the budget.
     pub budget: u64,
     /// 0 without one.
     pub deadline: u64,
+    /// 1 where a share sets the budget, else 0.
+    pub share_given: u64,
+    /// In thousandths; 0 without one.
+    pub share: u64,
     /// Where the records of the processors begin: for each, in their order, a `P` of 3 bytes or a `Q` of 5. So the record of a processor is found from the one before
     /// it, by its letter.
     pub prices_at: usize,
@@ -202,8 +303,64 @@ mod proved {
         pub length: usize,
     }
 
+    #[repr(C)]
+    #[derive(Default)]
+    pub struct Costs {
+        pub number: u64,
+        pub place: u64,
+        pub cheapest: u64,
+        pub heft: u64,
+    }
+
+    pub type Planner = unsafe extern "C" fn(
+        answer: *mut Answer,
+        request: *const u8,
+        request_len: usize,
+        processors: *mut u64,
+        processors_len: usize,
+        starts: *mut u64,
+        starts_len: usize,
+        finishes: *mut u64,
+        finishes_len: usize,
+        costs: *mut u64,
+        costs_len: usize,
+    );
+
+    pub type Printer = unsafe extern "C" fn(
+        request: *const u8,
+        request_len: usize,
+        text: *mut u8,
+        text_len: usize,
+    ) -> usize;
+
     extern "C" {
         pub fn zabgurin_plan(
+            answer: *mut Answer,
+            request: *const u8,
+            request_len: usize,
+            processors: *mut u64,
+            processors_len: usize,
+            starts: *mut u64,
+            starts_len: usize,
+            finishes: *mut u64,
+            finishes_len: usize,
+            costs: *mut u64,
+            costs_len: usize,
+        );
+        pub fn zabgurin_cheapest(
+            answer: *mut Answer,
+            request: *const u8,
+            request_len: usize,
+            processors: *mut u64,
+            processors_len: usize,
+            starts: *mut u64,
+            starts_len: usize,
+            finishes: *mut u64,
+            finishes_len: usize,
+            costs: *mut u64,
+            costs_len: usize,
+        );
+        pub fn zabgurin_heft(
             answer: *mut Answer,
             request: *const u8,
             request_len: usize,
@@ -222,6 +379,19 @@ mod proved {
             text: *mut u8,
             text_len: usize,
         ) -> usize;
+        pub fn zabgurin_print_cheapest(
+            request: *const u8,
+            request_len: usize,
+            text: *mut u8,
+            text_len: usize,
+        ) -> usize;
+        pub fn zabgurin_print_heft(
+            request: *const u8,
+            request_len: usize,
+            text: *mut u8,
+            text_len: usize,
+        ) -> usize;
+        pub fn zabgurin_range(costs: *mut Costs, request: *const u8, request_len: usize);
         pub fn zabgurin_label(request: *const u8, request_len: usize, task: usize) -> Part;
         pub fn zabgurin_read(reading: *mut Reading, request: *const u8, request_len: usize);
         pub fn zabgurin_listed(byte: u8) -> bool;

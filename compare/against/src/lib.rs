@@ -1,5 +1,6 @@
 //! The functions that the proved code exports, asked through the driver, and the same label checks in plain Rust to
 //! hold them against.
+use compare::Method;
 use std::io::{self, Read, Write};
 use std::process::{Child, Command, Stdio};
 
@@ -49,6 +50,29 @@ impl From<compare::Answer> for Answer {
     }
 }
 
+/// What the cheapest plan and the HEFT plan cost, or the refusal's number and place. Whatever does not belong to the
+/// answer is 0.
+#[repr(C)]
+#[derive(Clone, Copy, Debug, Default, PartialEq, Eq)]
+pub struct Costs {
+    pub number: u64,
+    pub place: u64,
+    pub cheapest: u64,
+    pub heft: u64,
+}
+
+impl From<Result<compare::Costs, compare::Refusal>> for Costs {
+    fn from(range: Result<compare::Costs, compare::Refusal>) -> Costs {
+        match range {
+            Ok(compare::Costs { cheapest, heft }) => Costs { cheapest, heft, ..Costs::default() },
+            Err(compare::Refusal { number, place }) => Costs { number, place, ..Costs::default() },
+        }
+    }
+}
+
+/// What a plan can be asked by.
+pub const METHODS: [Method; 3] = [Method::Hbcs, Method::Cheapest, Method::Heft];
+
 /// The four buffers of a plan: processors, starts, finishes and costs. Row i is in the numbers at i.
 pub type Columns = [Vec<u64>; 4];
 
@@ -70,21 +94,32 @@ const LABEL_LEN: u64 = 1;
 const READ: u64 = 2;
 const LABEL: u64 = 3;
 const PLAN: u64 = 4;
-const PRINT: u64 = 5;
-const NOTHING: u64 = 6;
-const DEEPEST: u64 = 7;
-const TAKEN: u64 = 8;
+const PRINT: u64 = 7;
+const RANGE: u64 = 10;
+const NOTHING: u64 = 11;
+const DEEPEST: u64 = 12;
+const TAKEN: u64 = 13;
 
-/// A call of the library whose stack is measured: with a byte, a place, a task, so many rows in each buffer, so much
-/// room for the text.
+/// How far behind the first planner, or printer, the one of this method is.
+fn behind(method: Method) -> u64 {
+    match method {
+        Method::Hbcs => 0,
+        Method::Cheapest => 1,
+        Method::Heft => 2,
+    }
+}
+
+/// A call of the library whose stack is measured: with a byte, a place, a task; by a method, so many rows in each
+/// buffer, so much room for the text.
 #[derive(Clone, Copy, Debug, PartialEq, Eq)]
 pub enum Call {
     Listed(u8),
     LabelLen(usize),
     Read,
     Label(usize),
-    Plan(usize),
-    Print(usize),
+    Plan(Method, usize),
+    Print(Method, usize),
+    Range,
 }
 
 impl Call {
@@ -95,8 +130,13 @@ impl Call {
             Call::LabelLen(_) => "zabgurin_label_len",
             Call::Read => "zabgurin_read",
             Call::Label(_) => "zabgurin_label",
-            Call::Plan(_) => "zabgurin_plan",
-            Call::Print(_) => "zabgurin_print",
+            Call::Plan(Method::Hbcs, _) => "zabgurin_plan",
+            Call::Plan(Method::Cheapest, _) => "zabgurin_cheapest",
+            Call::Plan(Method::Heft, _) => "zabgurin_heft",
+            Call::Print(Method::Hbcs, _) => "zabgurin_print",
+            Call::Print(Method::Cheapest, _) => "zabgurin_print_cheapest",
+            Call::Print(Method::Heft, _) => "zabgurin_print_heft",
+            Call::Range => "zabgurin_range",
         }
     }
 
@@ -106,8 +146,9 @@ impl Call {
             Call::LabelLen(at) => (LABEL_LEN, at),
             Call::Read => (READ, 0),
             Call::Label(task) => (LABEL, task),
-            Call::Plan(rows) => (PLAN, rows),
-            Call::Print(room) => (PRINT, room),
+            Call::Plan(method, rows) => (PLAN + behind(method), rows),
+            Call::Print(method, room) => (PRINT + behind(method), room),
+            Call::Range => (RANGE, 0),
         };
         (TAKEN, kind | (argument as u64) << 8)
     }
@@ -168,15 +209,19 @@ impl Driver {
             .collect()
     }
 
-    /// For requests, each with four buffers of these lengths that hold what [`columns_before`] says: the answer, and
-    /// the buffers after the call.
-    pub fn plan(&mut self, requests: &[(&[u8], [usize; 4])]) -> Vec<(Answer, Columns)> {
+    /// For requests, each with four buffers of these lengths that hold what [`columns_before`] says: the answer by this
+    /// method, and the buffers after the call.
+    pub fn plan(
+        &mut self,
+        method: Method,
+        requests: &[(&[u8], [usize; 4])],
+    ) -> Vec<(Answer, Columns)> {
         let argument = |lengths: &[usize; 4]| {
             lengths.iter().rev().fold(0, |argument, &length| argument << 16 | length as u64)
         };
         let batch: Vec<_> = requests
             .iter()
-            .map(|(request, lengths)| (*request, vec![(PLAN, argument(lengths))]))
+            .map(|(request, lengths)| (*request, vec![(PLAN + behind(method), argument(lengths))]))
             .collect();
         let mut answers = self.ask(&batch);
         requests
@@ -188,11 +233,12 @@ impl Driver {
             .collect()
     }
 
-    /// For requests, each with so much room for its text, full of `#`: how many bytes the text has, and the room after
-    /// the call.
-    pub fn print(&mut self, requests: &[(&[u8], usize)]) -> Vec<(usize, Vec<u8>)> {
+    /// For requests, each with so much room for its text by this method, full of `#`: how many bytes the text has, and
+    /// the room after the call.
+    pub fn print(&mut self, method: Method, requests: &[(&[u8], usize)]) -> Vec<(usize, Vec<u8>)> {
+        let question = |room: usize| vec![(PRINT + behind(method), room as u64)];
         let batch: Vec<_> =
-            requests.iter().map(|&(request, room)| (request, vec![(PRINT, room as u64)])).collect();
+            requests.iter().map(|&(request, room)| (request, question(room))).collect();
         let mut answers = self.ask(&batch);
         requests
             .iter()
@@ -200,11 +246,19 @@ impl Driver {
             .collect()
     }
 
-    /// What comes back for no request and no buffers, all of them null: the answer, the reading, where task 0's label
-    /// is and how long, and the lengths of the text and of a label at 0.
-    pub fn nothing(&mut self) -> (Answer, Reading, [usize; 4]) {
+    /// For each request what the cheapest plan and the HEFT plan cost, or the refusal.
+    pub fn range(&mut self, requests: &[&[u8]]) -> Vec<Costs> {
+        let batch: Vec<_> = requests.iter().map(|&request| (request, vec![(RANGE, 0)])).collect();
+        let mut answers = self.ask(&batch);
+        requests.iter().map(|_| answers.costs()).collect()
+    }
+
+    /// What comes back for no request and no buffers, all of them null: the answers by each method, the range, the
+    /// reading, where task 0's label is and how long, and the lengths of the texts and of a label at 0.
+    pub fn nothing(&mut self) -> ([Answer; 3], Costs, Reading, [usize; 6]) {
         let mut answers = self.ask(&[(&[], vec![(NOTHING, 0)])]);
-        (answers.answer(), answers.reading(), [0; 4].map(|_| answers.size()))
+        let by_method = METHODS.map(|_| answers.answer());
+        (by_method, answers.costs(), answers.reading(), [0; 6].map(|_| answers.size()))
     }
 
     /// For a request and calls with it: how many bytes of stack each call takes, and the first word of its answer. The
@@ -301,6 +355,10 @@ impl Answers {
         }
     }
 
+    fn costs(&mut self) -> Costs {
+        Costs { number: self.word(), place: self.word(), cheapest: self.word(), heft: self.word() }
+    }
+
     fn reading(&mut self) -> Reading {
         Reading {
             number: self.word(),
@@ -309,6 +367,8 @@ impl Answers {
             processors: self.size(),
             budget: self.word(),
             deadline: self.word(),
+            share_given: self.word(),
+            share: self.word(),
             prices_at: self.size(),
             windows_at: self.size(),
             windows: self.size(),

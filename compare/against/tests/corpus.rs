@@ -1,6 +1,6 @@
 //! The requests that fuzzing found worth keeping, in `compare/corpus`, answered again.
-use against::{columns_before, Driver};
-use compare::Row;
+use against::{columns_before, Driver, METHODS};
+use compare::{Method, Row};
 use std::fs;
 
 #[test]
@@ -11,20 +11,31 @@ fn the_corpus_is_answered_alike() {
         files.map(|file| fs::read(file.expect("an entry").path()).expect("a request")).collect();
     assert!(requests.len() >= 30, "{} requests", requests.len());
     let mut driver = Driver::start();
-    for request in &requests {
-        let (answer, columns) = driver.plan(&[(request, [70; 4])]).remove(0);
+    for (request, method) in requests.iter().flat_map(|request| METHODS.map(|by| (request, by))) {
+        let (answer, columns) = driver.plan(method, &[(request, [70; 4])]).remove(0);
         let mut rows = [Row::default(); 70];
-        assert_eq!(answer, compare::plan(request, &mut rows).into(), "{request:?}");
+        let theirs = compare::plan_by(method, request, &mut rows);
+        assert_eq!(answer, theirs.into(), "{method:?}: {request:?}");
         let before = columns_before([70; 4]);
         for (i, row) in rows.iter().enumerate() {
             let fields = [row.processor, row.start, row.finish, row.cost];
             for ((column, before), field) in columns.iter().zip(&before).zip(fields) {
                 let expected = if (i as u64) < answer.tasks { field } else { before[i] };
-                assert_eq!(column[i], expected, "row {i} of {request:?}");
+                assert_eq!(column[i], expected, "{method:?}: row {i} of {request:?}");
             }
         }
-        let text = compare::text(request);
-        assert_eq!(driver.print(&[(request, text.len())]).remove(0), (text.len(), text));
-        assert_eq!(zabgurin::text(request), compare::text(request));
+        let text = compare::text_by(method, request);
+        let printed = driver.print(method, &[(request, text.len())]).remove(0);
+        assert_eq!(printed, (text.len(), text.clone()));
+        let by_wrapper = match method {
+            Method::Hbcs => zabgurin::text(request),
+            Method::Cheapest => zabgurin::text_cheapest(request),
+            Method::Heft => zabgurin::text_heft(request),
+        };
+        assert_eq!(by_wrapper, text);
+    }
+    for request in &requests {
+        let range = driver.range(&[request]).remove(0);
+        assert_eq!(range, compare::range(request).into(), "{request:?}");
     }
 }

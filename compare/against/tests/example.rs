@@ -1,7 +1,8 @@
 //! The example for C, built with the header and the proved library, prints what the independent program prints.
 use compare::random::{Damage, Random};
 use compare::samples;
-use compare::shapes::{shaped, Budget, Deadline, Graph, Minimums, Numbers, MARKERS, WINDOWS};
+use compare::shapes::{shaped, Budget, Deadline, Graph, Minimums, Numbers};
+use compare::shapes::{MARKERS, SHARES, WINDOWS};
 use std::io::Write;
 use std::process::{Command, Stdio};
 
@@ -34,7 +35,8 @@ fn large_and_damaged_requests() {
     for (k, damage) in Damage::ALL.into_iter().enumerate() {
         let (windows, markers) = (WINDOWS[k % WINDOWS.len()], MARKERS[k % MARKERS.len()]);
         let (numbers, budget, deadline) = (Numbers::Any, Budget::Tight, Deadline::None);
-        let shape = (Graph::Dense, numbers, budget, deadline, Minimums::Near, windows, markers);
+        let (least, share) = (Minimums::Near, SHARES[k % SHARES.len()]);
+        let shape = (Graph::Dense, numbers, budget, deadline, least, windows, markers, share);
         let mut request = shaped(&mut random, (64, 16), shape).bytes();
         assert_eq!(printed(&request), compare::text(&request), "{request:?}");
         damage.to(&mut random, &mut request);

@@ -2,8 +2,8 @@
 //! damaged ones of every kind, every cut, every byte and every number of two bytes, too many edges, windows in any
 //! order, noise. Many have minutes of 0.
 use against::{Driver, Reading};
-use compare::build::{d, e, m, p, q, sample, t, w, z, Draft};
-use compare::random::{has_a_zero, sized, windows_of, Damage, Random};
+use compare::build::{d, e, k, m, p, q, sample, t, w, z, Draft};
+use compare::random::{has_a_zero, share, sized, windows_of, Damage, Random};
 use compare::{Edge, Refusal, Window, Workflow, MOST_BYTES};
 
 // The sizes of the rules' records, with the kind byte.
@@ -131,6 +131,11 @@ fn workflow(request: &[u8], reading: &Reading, labels: &[&[u8]]) -> Workflow {
         processors: m,
         budget: reading.budget.try_into().unwrap(),
         deadline: (reading.deadline != 0).then(|| reading.deadline.try_into().unwrap()),
+        share: match (reading.share_given, reading.share) {
+            (0, 0) => None,
+            (1, share) => Some(share.try_into().unwrap()),
+            given => panic!("{given:?} for request {request:?}"),
+        },
         prices,
         minimums,
         windows,
@@ -156,8 +161,8 @@ fn four_for_each(random: &mut Random) -> Vec<(u8, u32, u32)> {
     (0..16).flat_map(|j| windows_of(random, j, 4, (0, 20_000))).collect()
 }
 
-/// Small ones mostly, some of them the smallest; some of any size, and some of the full one, half of these with 16 `Q` and
-/// 64 windows.
+/// Small ones mostly, some of them the smallest; some of any size, and some of the full one, half of these with 16 `Q`, 64
+/// windows and a `K`.
 fn good(random: &mut Random) -> Draft {
     match random.within(1, 40) {
         1 | 2 => {
@@ -165,12 +170,13 @@ fn good(random: &mut Random) -> Draft {
             if random.one_in(2) {
                 draft.minimums = vec![Some(random.often_an_end(0, 10_000) as u16); 16];
                 draft.windows = four_for_each(random);
+                draft = draft.with_share(share(random));
             }
             draft
         }
         6 => {
             let draft = sized(random, 1, 1, 0).with_minimums(&[None]).with_windows(&[]);
-            Draft { deadline: None, ..draft }
+            Draft { deadline: None, share: None, ..draft }
         }
         3..=5 => {
             let (n, m) = (random.often_an_end(1, 64), random.often_an_end(1, 16));
@@ -190,14 +196,14 @@ fn good_requests() {
     let mut random = Random(0x5eed_4ead_0000_0001);
     let (mut full, mut with_deadline, mut without) = (0, 0, 0);
     // How often a request has the lowest and the highest value of each range.
-    let mut ends = [("", [0; 2]); 14];
+    let mut ends = [("", [0; 2]); 15];
     let mut of_length = [0; 9];
     // How often a request has `P` alone, `Q` alone and both.
     let mut kinds = [0; 3];
     // How often it has windows, and two that touch.
     let (mut with_windows, mut touching) = (0, 0);
-    // How often it has minutes of 0.
-    let mut with_zeros = 0;
+    // How often it has minutes of 0, and a `K`.
+    let (mut with_zeros, mut with_share) = (0, 0);
     let requests = (0..24_000).map(|_| {
         let draft = good(&mut random);
         let request = draft.bytes();
@@ -207,6 +213,8 @@ fn good_requests() {
             Some(_) => with_deadline += 1,
             None => without += 1,
         }
+        let shares: Vec<u32> = draft.share.iter().map(|&share| share.into()).collect();
+        with_share += shares.len();
         let prices: Vec<u32> = draft.prices.iter().map(|&price| price.into()).collect();
         let minimums: Vec<u32> = draft.minimums.iter().flatten().map(|&m| m.into()).collect();
         kinds[match minimums.len() {
@@ -226,12 +234,13 @@ fn good_requests() {
         let touch = |pair: &[(u8, u32, u32)]| (pair[0].0, pair[0].2) == (pair[1].0, pair[1].1);
         touching += usize::from(draft.windows.windows(2).any(touch));
         with_zeros += usize::from(has_a_zero(&draft));
-        let ranges: [(&str, u32, u32, &[u32]); 14] = [
+        let ranges: [(&str, u32, u32, &[u32]); 15] = [
             ("n", 1, 64, &[sizes.0 as u32]),
             ("m", 1, 16, &[sizes.1 as u32]),
             ("edges", 0, 512, &[sizes.2 as u32]),
             ("budget", 0, 20_000_000, &[draft.budget]),
             ("deadline", 1, 200_000, draft.deadline.as_slice()),
+            ("share", 0, 1_000, &shares),
             ("price", 0, 100, &prices),
             ("minimum", 0, 10_000, &minimums),
             ("begin", 0, 19_999, &begins),
@@ -254,7 +263,7 @@ fn good_requests() {
     });
     assert!(agree(requests).iter().all(|&number| number == 0));
     println!("{full} full, {with_deadline} with a deadline, {without} without; ends {ends:?}; kinds {kinds:?}; labels {of_length:?}");
-    println!("{with_windows} with windows, {touching} with windows that touch, {with_zeros} with minutes of 0");
+    println!("{with_windows} with windows, {touching} with windows that touch, {with_zeros} with minutes of 0, {with_share} with a share");
     assert!(full >= 500, "{full} full");
     assert!(
         with_deadline >= 10_000 && without >= 10_000,
@@ -264,6 +273,7 @@ fn good_requests() {
     assert!(kinds.iter().all(|&seen| seen >= 4_000), "{kinds:?}");
     assert!(with_windows >= 12_000 && touching >= 2_000, "{with_windows}, {touching}");
     assert!((6_000..18_000).contains(&with_zeros), "{with_zeros}");
+    assert!((6_000..12_000).contains(&with_share), "{with_share}");
     assert!(of_length[1..].iter().all(|&seen| seen >= 10_000), "{of_length:?}");
 }
 
@@ -303,9 +313,11 @@ fn every_cut() {
         sample(28).with_minimums(&[None, Some(10)]),
         sample(28).with_windows(&[(0, 7, 9), (1, 4, 30)]),
         with_zeros(),
+        sample(0).with_share(667),
         sized(&mut random, 1, 1, 0),
         full.clone().with_minimums(&[None; 16]).with_windows(&[]),
-        full.with_minimums(&[Some(10_000); 16]).with_windows(&four_for_each(&mut random)),
+        full.clone().with_minimums(&[Some(10_000); 16]).with_windows(&four_for_each(&mut random)),
+        full.with_share(1_000),
     ];
     drafts.extend((0..200).map(|_| sized(&mut random, 3, 2, 4)));
     for mut draft in drafts {
@@ -320,7 +332,7 @@ fn every_cut() {
     }
 }
 
-/// The sample without minimums, windows and zeros and with them, each without a deadline and with one.
+/// The sample without minimums, windows, zeros and a share and with them, each without a deadline and with one.
 #[test]
 fn every_byte_of_the_sample() {
     let drafts = [
@@ -330,6 +342,7 @@ fn every_byte_of_the_sample() {
         sample(28).with_windows(&[(0, 7, 9), (1, 4, 30)]),
         sample(28).with_windows(&[(0, 0, 1), (0, 1, 258), (0, 259, 1_000), (0, 5_000, 20_000)]),
         with_zeros(),
+        sample(0).with_share(667),
     ];
     let drafts = drafts.iter().flat_map(|draft| [None, Some(14)].map(|to| (draft, to)));
     let requests = drafts.flat_map(|(draft, deadline)| {
@@ -343,14 +356,14 @@ fn every_byte_of_the_sample() {
     });
     let met = met(&agree(requests));
     println!("{met:?}");
-    let bytes = 84 + 89 + 86 + 91 + 88 + 93 + 104 + 109 + 124 + 129 + 84 + 89;
+    let bytes = 84 + 89 + 86 + 91 + 88 + 93 + 104 + 109 + 124 + 129 + 84 + 89 + 87 + 92;
     assert_eq!(met.iter().sum::<usize>(), bytes * 256);
-    // 1 needs `Z` turned into `E`, and 6 one of the two `E` turned into `Z`, in each of the twelve requests.
-    assert_eq!((met[1], met[6]), (12, 24));
+    // 1 needs `Z` turned into `E`, and 6 one of the two `E` turned into `Z`, in each of the fourteen requests.
+    assert_eq!((met[1], met[6]), (14, 28));
     assert!([0, 2, 3, 4, 5].iter().all(|&number| met[number] >= 1_000), "{met:?}");
 }
 
-/// All values of minutes, transfer and minimum; of budget, deadline and a window's begin and end those at the ends of the
+/// All values of minutes, transfer, minimum and share; of budget, deadline and a window's begin and end those at the ends of the
 /// range and of each byte.
 #[test]
 fn every_number_of_more_bytes() {
@@ -374,12 +387,18 @@ fn every_number_of_more_bytes() {
     within("transfer", 0, 1_000, &values, |draft, value| draft.edges[0].2 = value as u16);
     within("minimum", 0, 10_000, &values, |draft, value| draft.minimums[0] = Some(value as u16));
     within("minimum", 0, 10_000, &values, |draft, value| draft.minimums[1] = Some(value as u16));
+    within("share", 0, 1_000, &values, |draft, value| {
+        *draft = draft.clone().with_share(value as u16);
+    });
     let mut random = Random(0x5eed_4ead_0000_0004);
     let near = |end: u32| (0..=600).map(move |more| end.wrapping_sub(300).wrapping_add(more));
     let ends = [0, 1 << 8, 1 << 16, 200_000, 1 << 24, 20_000_000, 1 << 31];
     let random = (0..20_000).map(|_| (random.number() >> random.within(32, 63)) as u32);
     let values: Vec<u32> = ends.into_iter().flat_map(near).chain(random).collect();
     within("budget", 0, 20_000_000, &values, |draft, value| draft.budget = value);
+    within("budget beside a share", 0, 0, &values, |draft, value| {
+        (draft.budget, draft.share) = (value, Some(667));
+    });
     within("deadline", 1, 200_000, &values, |draft, value| draft.deadline = Some(value));
     let near_the_end: Vec<u32> = near(20_000).chain(values).collect();
     let values = &near_the_end[..];
@@ -506,8 +525,9 @@ fn noise_behind_a_header() {
             let [a, b, c] = [(); 3].map(|()| random.within(0, 2) as u8);
             match (sort, random.within(1, 7)) {
                 (1, _) => request.push(random.number() as u8),
-                (2, _) => request.push(random.one_of(b"DPQMTWEZ\0\x01\x02 a")),
-                (_, 1) => request.extend(d(c.into())),
+                (2, _) => request.push(random.one_of(b"DKPQMTWEZ\0\x01\x02 a")),
+                (_, 1) if random.one_in(2) => request.extend(d(c.into())),
+                (_, 1) => request.extend(k(random.one_of(&[0, 1, 1_000, 1_001]))),
                 (_, 2) if random.one_in(2) => request.extend(p(a, b)),
                 (_, 2) => request.extend(q(a, b, random.one_of(&[0, 1, 10_000, 10_001]))),
                 (_, 3) => request.extend(t(a, &b"aZ-"[..usize::from(b)])),

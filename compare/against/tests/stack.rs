@@ -1,12 +1,14 @@
 //! How much stack each function of the library takes: measured on the largest requests, and added up from its frames.
 //! The header and docs/PROMISES.md are held to it.
 use against::frames::Library;
-use against::{Call, Driver};
+use against::{Call, Driver, METHODS};
 use compare::build::Draft;
 use compare::random::{windows_of, Damage, Random};
-use compare::shapes::{shaped, Budget, Deadline, Graph, Markers, Minimums, Numbers, Windows};
-use compare::shapes::{BUDGETS, DEADLINES, GRAPHS, MARKERS, MINIMUMS, NUMBERS, WINDOWS};
-use compare::{MOST_BYTES, REFUSALS};
+use compare::shapes::{
+    shaped, Budget, Deadline, Graph, Markers, Minimums, Numbers, Share, Windows,
+};
+use compare::shapes::{BUDGETS, DEADLINES, GRAPHS, MARKERS, MINIMUMS, NUMBERS, SHARES, WINDOWS};
+use compare::{Method, MOST_BYTES, REFUSALS};
 use std::collections::{BTreeMap, BTreeSet};
 use std::fs;
 use std::io::{self, Write};
@@ -46,7 +48,7 @@ fn document(name: &str) -> String {
 }
 
 /// Requests of 64 tasks and 16 processors: of every shape, the dense ones with 512 edges, with one sort of minimums, of
-/// windows and of markers after the other; one of as many bytes as a request can have; and two with cycles through all
+/// windows, of markers and of shares after the other; one of as many bytes as a request can have; and two with cycles through all
 /// tasks. In the first of these each task waits for the one before it, in the second for the eight before it: 512 edges.
 fn largest(random: &mut Random) -> Vec<Draft> {
     let mut drawn = |shape| shaped(random, (MOST_TASKS, 16), shape);
@@ -60,7 +62,8 @@ fn largest(random: &mut Random) -> Vec<Draft> {
                     let (least, down) = (turn % MINIMUMS.len(), turn % WINDOWS.len());
                     let (least, down) = (MINIMUMS[least], WINDOWS[down]);
                     let markers = MARKERS[turn % MARKERS.len()];
-                    let shape = (graph, numbers, budget, deadline, least, down, markers);
+                    let share = SHARES[turn % SHARES.len()];
+                    let shape = (graph, numbers, budget, deadline, least, down, markers, share);
                     let mut draft = drawn(shape);
                     while graph == Graph::Dense && draft.edges.len() < 512 {
                         draft = drawn(shape);
@@ -72,18 +75,19 @@ fn largest(random: &mut Random) -> Vec<Draft> {
     }
     let mut most =
         drafts.iter().find(|draft| draft.edges.len() == 512).expect("a dense one").clone();
-    most.budget = 20_000_000;
     most.deadline = Some(200_000);
     most.minimums = vec![Some(10_000); 16];
     let mut windows = Random(0x57ac_5eed_0000_0002);
     let four = |j| windows_of(&mut windows, j, 4, (0, 20_000));
     most.windows = (0..16).flat_map(four).collect();
+    most = most.with_share(1_000);
     assert_eq!(most.bytes().len(), MOST_BYTES);
     drafts.push(most);
     for before in [1, 8] {
         let (budget, deadline) = (Budget::Plenty, Deadline::None);
         let (least, down, markers) = (Minimums::None, Windows::None, Markers::None);
-        let mut draft = drawn((Graph::Loose, Numbers::Any, budget, deadline, least, down, markers));
+        let (graph, numbers, share) = (Graph::Loose, Numbers::Any, Share::None);
+        let mut draft = drawn((graph, numbers, budget, deadline, least, down, markers, share));
         let edges = (0..64).flat_map(|i| (1..=before).map(move |k| (i, (i + k) % 64, 1_000)));
         draft.edges = edges.collect();
         draft.edges.sort();
@@ -115,9 +119,13 @@ fn measure() -> Measured {
         }
         answers
     };
-    let few = Call::Plan(MOST_TASKS - 1);
+    let few = Call::Plan(Method::Hbcs, MOST_TASKS - 1);
     let label = Call::Label(MOST_TASKS - 1);
-    let calls = [Call::Plan(MOST_TASKS), few, Call::Print(MOST_TEXT), Call::Read, label];
+    // By HBCS first, with all rows and with one less.
+    let mut calls = vec![Call::Plan(Method::Hbcs, MOST_TASKS), few];
+    calls.extend(METHODS.map(|method| Call::Plan(method, MOST_TASKS)));
+    calls.extend(METHODS.map(|method| Call::Print(method, MOST_TEXT)));
+    calls.extend([Call::Range, Call::Read, label]);
     let (mut met, mut met_with_512_edges) = (BTreeSet::new(), BTreeSet::new());
     let mut random = Random(0x57ac_5eed_0000_0001);
     for (k, draft) in largest(&mut random).iter().enumerate() {
@@ -192,7 +200,7 @@ fn nothing_outside_is_called_but_memcpy_and_memset() {
     say("the library calls nothing outside but memcpy and memset: no heap");
 }
 
-/// It has a line for each function, such as `    zabgurin_listed         8 bytes`, in its opening comment.
+/// It has a line for each function, such as `    zabgurin_listed               8 bytes`, in its opening comment.
 #[test]
 fn the_header_says_what_the_frames_add_up_to() {
     let header = document("include/zabgurin.h");
@@ -200,7 +208,7 @@ fn the_header_says_what_the_frames_add_up_to() {
     let words = |line: &str| line.split_whitespace().collect::<Vec<_>>().join(" ");
     let is_figure = |line: &String| line.starts_with("zabgurin_") && line.ends_with(" bytes");
     let said: BTreeSet<String> = comment.lines().map(words).filter(is_figure).collect();
-    let line = |(name, bytes)| format!("    {name:<19}{:>6} bytes", commas(bytes));
+    let line = |(name, bytes)| format!("    {name:<25}{:>6} bytes", commas(bytes));
     let due: Vec<String> = summed().into_iter().map(line).collect();
     let due_words = due.iter().map(|line| words(line)).collect();
     assert!(

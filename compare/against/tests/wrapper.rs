@@ -1,42 +1,66 @@
 //! The Rust wrapper against the independent program: plans, texts, labels and readings of good and damaged requests.
 use compare::random::{sized, windows_of, Damage, Random};
 use compare::shapes::{shape, shaped, SHAPES};
-use compare::{Answer, Row, MOST_BYTES};
+use compare::{Answer, Method, Row, MOST_BYTES};
 use std::fs;
-use zabgurin::{Refusal, Summary, MOST_REQUEST, MOST_TASKS, MOST_TEXT};
+use zabgurin::{Costs, Refusal, Summary, MOST_REQUEST, MOST_TASKS, MOST_TEXT};
 
-/// What the independent program says, in the wrapper's words.
-fn plan(request: &[u8], rows: &mut [Row]) -> Result<Summary, Refusal> {
-    match compare::plan(request, rows) {
+/// What the independent program says by this method, in the wrapper's words.
+fn plan(method: Method, request: &[u8], rows: &mut [Row]) -> Result<Summary, Refusal> {
+    match compare::plan_by(method, request, rows) {
         Answer::Planned { n, length, cost, left } => Ok(Summary { tasks: n, length, cost, left }),
         Answer::Refused { number, place } => Err(Refusal { number, place }),
     }
 }
 
+/// The wrapper's plan, text and printer for a method.
+type Asked = (
+    Method,
+    fn(&[u8]) -> Result<zabgurin::Plan, Refusal>,
+    fn(&[u8]) -> Vec<u8>,
+    fn(&[u8], &mut [u8]) -> Result<usize, usize>,
+);
+const ASKED: [Asked; 3] = [
+    (Method::Hbcs, zabgurin::plan, zabgurin::text, zabgurin::print),
+    (Method::Cheapest, zabgurin::cheapest, zabgurin::text_cheapest, zabgurin::print_cheapest),
+    (Method::Heft, zabgurin::heft, zabgurin::text_heft, zabgurin::print_heft),
+];
+
 fn agree(request: &[u8]) {
-    let mut rows = [Row::default(); 64];
-    let theirs = plan(request, &mut rows);
-    let ours = zabgurin::plan(request);
-    assert_eq!(ours.as_ref().map(|plan| plan.summary), theirs.as_ref().copied(), "{request:?}");
-    for (ours, theirs) in ours.iter().flat_map(|plan| &plan.rows).zip(&rows) {
-        let ours = Row {
-            processor: ours.processor,
-            start: ours.start,
-            finish: ours.finish,
-            cost: ours.cost,
-        };
-        assert_eq!(ours, *theirs, "{request:?}");
+    for (method, plan_by, text_by, print_by) in ASKED {
+        let mut rows = [Row::default(); 64];
+        let theirs = plan(method, request, &mut rows);
+        let ours = plan_by(request);
+        let summary = ours.as_ref().map(|plan| plan.summary);
+        assert_eq!(summary, theirs.as_ref().copied(), "{method:?}: {request:?}");
+        for (ours, theirs) in ours.iter().flat_map(|plan| &plan.rows).zip(&rows) {
+            let ours = Row {
+                processor: ours.processor,
+                start: ours.start,
+                finish: ours.finish,
+                cost: ours.cost,
+            };
+            assert_eq!(ours, *theirs, "{method:?}: {request:?}");
+        }
+        let text = compare::text_by(method, request);
+        assert_eq!(text_by(request), text, "{method:?}: {request:?}");
+        let mut short = vec![b'#'; text.len() - 1];
+        assert_eq!(print_by(request, &mut short), Err(text.len()));
+        assert!(short.iter().all(|&b| b == b'#'), "{method:?}: {request:?}");
     }
-    let text = compare::text(request);
-    assert_eq!(zabgurin::text(request), text, "{request:?}");
-    let mut short = vec![b'#'; text.len() - 1];
-    assert_eq!(zabgurin::print(request, &mut short), Err(text.len()));
-    assert!(short.iter().all(|&b| b == b'#'), "{request:?}");
+    let range = compare::range(request);
+    let range = range.map(|costs| Costs { cheapest: costs.cheapest, heft: costs.heft });
+    let range = range.map_err(|refusal| Refusal { number: refusal.number, place: refusal.place });
+    assert_eq!(zabgurin::range(request), range, "{request:?}");
     for task in [0, 1, 7, 63, 64, usize::MAX] {
         assert_eq!(zabgurin::label(request, task), compare::label(request, task), "{request:?}");
     }
-    let number = compare::read(request).map_or_else(|refusal| refusal.number, |_| 0);
-    assert_eq!(zabgurin::read(request).number, number, "{request:?}");
+    let (ours, theirs) = (zabgurin::read(request), compare::read(request));
+    let number = theirs.as_ref().map_or_else(|refusal| refusal.number, |_| 0);
+    assert_eq!(ours.number, number, "{request:?}");
+    let share = theirs.ok().and_then(|workflow| workflow.share);
+    let given = (ours.share_given, ours.share);
+    assert_eq!(given, (share.is_some().into(), share.unwrap_or(0).into()), "{request:?}");
 }
 
 #[test]
@@ -62,7 +86,7 @@ fn the_most() {
     draft.minimums = vec![Some(10_000); 16];
     let four = |j| windows_of(&mut random, j, 4, (0, 20_000));
     draft.windows = (0..16).flat_map(four).collect();
-    let mut request = draft.bytes();
+    let mut request = draft.with_share(1_000).bytes();
     assert_eq!(request.len(), MOST_REQUEST);
     assert_eq!(zabgurin::read(&request).number, 0);
     agree(&request);
@@ -91,12 +115,17 @@ fn the_header_says_the_same() {
 fn nothing_lent_and_nothing_sent() {
     agree(&[]);
     let none = || &mut [] as &mut [u64];
-    let refused =
-        zabgurin::plan_into(&compare::build::sample(28).bytes(), none(), none(), none(), none());
-    assert_eq!(refused, Err(Refusal { number: 7, place: 3 }));
-    let refused = zabgurin::plan_into(&[], none(), none(), none(), none());
-    assert_eq!(refused, Err(Refusal { number: 1, place: 0 }));
-    assert_eq!(zabgurin::print(&[], &mut []), Err(b"no 1 0\n".len()));
+    for plan_into in [zabgurin::plan_into, zabgurin::cheapest_into, zabgurin::heft_into] {
+        let sample = compare::build::sample(28).bytes();
+        let refused = plan_into(&sample, none(), none(), none(), none());
+        assert_eq!(refused, Err(Refusal { number: 7, place: 3 }));
+        let refused = plan_into(&[], none(), none(), none(), none());
+        assert_eq!(refused, Err(Refusal { number: 1, place: 0 }));
+    }
+    for (_, _, _, print) in ASKED {
+        assert_eq!(print(&[], &mut []), Err(b"no 1 0\n".len()));
+    }
+    assert_eq!(zabgurin::range(&[]), Err(Refusal { number: 1, place: 0 }));
     assert!(zabgurin::listed(b'-') && !zabgurin::listed(b';'));
     assert_eq!(zabgurin::label_len(b"prep    ", 0), 4);
 }

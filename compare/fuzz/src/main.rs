@@ -7,8 +7,10 @@ use std::time::{Duration, Instant};
 use std::{env, fs, process};
 
 use compare::random::{Damage, Random};
-use compare::shapes::{shaped, BUDGETS, DEADLINES, GRAPHS, MARKERS, MINIMUMS, NUMBERS, WINDOWS};
-use compare::{samples, Answer, Row};
+use compare::shapes::{shaped, BUDGETS, DEADLINES, GRAPHS};
+use compare::shapes::{MARKERS, MINIMUMS, NUMBERS, SHARES, WINDOWS};
+use compare::{samples, Answer, Method, Row};
+use zabgurin::{Costs, Refusal};
 
 static COUNTERS: AtomicPtr<u8> = AtomicPtr::new(std::ptr::null_mut());
 static COUNT: AtomicUsize = AtomicUsize::new(0);
@@ -33,17 +35,47 @@ fn reached() -> Vec<(usize, u32)> {
     reached
 }
 
-/// Holds the library against the independent program on one request, with these many numbers in each buffer.
+/// Holds the library against the independent program on one request, with these many numbers in each buffer: by each method, and the range.
 fn agree(request: &[u8], lent: [usize; 4]) {
+    let same = planned_alike(Method::Hbcs, zabgurin::plan_into, request, lent)
+        && planned_alike(Method::Cheapest, zabgurin::cheapest_into, request, lent)
+        && planned_alike(Method::Heft, zabgurin::heft_into, request, lent);
+    let texts = zabgurin::text(request) == compare::text(request)
+        && zabgurin::text_cheapest(request) == compare::text_by(Method::Cheapest, request)
+        && zabgurin::text_heft(request) == compare::text_by(Method::Heft, request);
+    let range = match (compare::range(request), zabgurin::range(request)) {
+        (Ok(theirs), Ok(Costs { cheapest, heft })) => {
+            (theirs.cheapest, theirs.heft) == (cheapest, heft)
+        }
+        (Err(theirs), Err(Refusal { number, place })) => {
+            (theirs.number, theirs.place) == (number, place)
+        }
+        _ => false,
+    };
+    let labels =
+        (0..66).all(|task| zabgurin::label(request, task) == compare::label(request, task));
+    if !same || !texts || !range || !labels {
+        fs::write("differs.request", request).expect("a file beside the corpus");
+        eprintln!("they differ, lent {lent:?}; the request is in differs.request");
+        process::exit(1);
+    }
+}
+
+/// One of the wrapper's planners.
+type Planner =
+    fn(&[u8], &mut [u64], &mut [u64], &mut [u64], &mut [u64]) -> Result<zabgurin::Summary, Refusal>;
+
+/// Whether the answers and the buffers are the same by this method.
+fn planned_alike(method: Method, planner: Planner, request: &[u8], lent: [usize; 4]) -> bool {
     let mut columns =
         lent.map(|length| (0..length as u64).map(|k| 0xfeed_0000 + k).collect::<Vec<_>>());
     let before = columns.clone();
     let [processors, starts, finishes, costs] = &mut columns;
-    let ours = zabgurin::plan_into(request, processors, starts, finishes, costs);
+    let ours = planner(request, processors, starts, finishes, costs);
 
     let mut rows = vec![Row::default(); *lent.iter().min().expect("four")];
     let mut expected = before;
-    let same = match (compare::plan(request, &mut rows), ours) {
+    let same = match (compare::plan_by(method, request, &mut rows), ours) {
         (Answer::Refused { number, place }, Err(refusal)) => {
             (refusal.number, refusal.place) == (number, place)
         }
@@ -56,14 +88,7 @@ fn agree(request: &[u8], lent: [usize; 4]) {
         }
         _ => false,
     };
-    let labels =
-        (0..66).all(|task| zabgurin::label(request, task) == compare::label(request, task));
-    if !same || columns != expected || !labels || zabgurin::text(request) != compare::text(request)
-    {
-        fs::write("differs.request", request).expect("a file beside the corpus");
-        eprintln!("they differ, lent {lent:?}; the request is in differs.request");
-        process::exit(1);
-    }
+    same && columns == expected
 }
 
 /// A request made from one that was kept, or a new one.
@@ -77,6 +102,7 @@ fn changed(random: &mut Random, kept: &[Vec<u8>]) -> Vec<u8> {
             random.one_of(&MINIMUMS),
             random.one_of(&WINDOWS),
             random.one_of(&MARKERS),
+            random.one_of(&SHARES),
         );
         let most = random.one_of(&[3, 8, 64]);
         let (n, m) = (random.within(1, most) as usize, random.within(1, 16.min(most)) as usize);

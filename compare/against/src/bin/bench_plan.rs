@@ -1,8 +1,8 @@
 //! Times the exported planner against the independent program's, side by side: nanoseconds for one plan, the best of
-//! many rounds, from 8 tasks to 64, without minimums, windows and markers, and for 64 with 16 minimums, with 64 windows,
-//! with both and with 16 markers. `bench_plan proved 64 1000` makes so many plans by one of the two (`proved` or `plain`)
-//! and prints nothing, for a tool that counts instructions; the words `minimums`, `windows` and `markers` behind that make
-//! them with these.
+//! many rounds, from 8 tasks to 64, without minimums, windows, markers and a share, and for 64 with 16 minimums, with 64
+//! windows, with both, with 16 markers and with a share. `bench_plan proved 64 1000` makes so many plans by one of the two
+//! (`proved` or `plain`) and prints nothing, for a tool that counts instructions; the words `minimums`, `windows`,
+//! `markers` and `share` behind that make them with these.
 use compare::build::Draft;
 use compare::random::{cheapest_total, make_marker, windows_of, Random};
 use compare::Row;
@@ -24,11 +24,13 @@ struct With {
     windows: bool,
     /// Every fourth task takes no time, and has the rank of one that waits for it, if one does.
     markers: bool,
+    /// A `K` of 500 sets the budget.
+    share: bool,
 }
 
 /// So many tasks, numbered in any order, on 16 processors, with eight edges to a task or as many as there can be. All else
 /// but the budget is the same.
-fn request(n: usize, With { minimums, windows, markers }: With) -> Vec<u8> {
+fn request(n: usize, With { minimums, windows, markers, share }: With) -> Vec<u8> {
     let mut random = Random(0x5eed_9a17_be9c_0001);
     let mut draft = Draft::new(0, &[], &[], &[]);
     draft.prices = (0..16).map(|_| random.within(1, 100) as u8).collect();
@@ -66,6 +68,9 @@ fn request(n: usize, With { minimums, windows, markers }: With) -> Vec<u8> {
         let four = |j| windows_of(&mut random, j, 4, (0, WINDOWS_END));
         draft.windows = (0..16).flat_map(four).collect();
     }
+    if share {
+        draft = draft.with_share(500);
+    }
     draft.bytes()
 }
 
@@ -86,8 +91,12 @@ fn main() {
     if let [by, n, plans, with @ ..] = &words[..] {
         let n = n.parse().expect("a number of tasks");
         let said = |name: &str| with.iter().any(|word| word == name);
-        let with =
-            With { minimums: said("minimums"), windows: said("windows"), markers: said("markers") };
+        let with = With {
+            minimums: said("minimums"),
+            windows: said("windows"),
+            markers: said("markers"),
+            share: said("share"),
+        };
         let request = request(n, with);
         for _ in 0..plans.parse::<usize>().expect("a number of plans") {
             black_box(if by == "proved" { proved(&request) } else { plain(&request) });
@@ -106,6 +115,7 @@ fn main() {
         (64, windows, ", 64 windows"),
         (64, both, ", 16 minimums, 64 windows"),
         (64, With { markers: true, ..none }, ", 16 markers"),
+        (64, With { share: true, ..none }, ", a share"),
     ];
     for (n, with, said) in cases {
         let request = request(n, with);

@@ -43,10 +43,10 @@ fn without_zeros(mut draft: Draft) -> Draft {
     draft
 }
 
-/// The full request, with a deadline; every processor is a `P`, or every one a `Q`, and none has windows.
+/// The full request, with a deadline; every processor is a `P`, or every one a `Q`, and none has windows. There is no `K`.
 fn full(minimum: Option<u16>) -> Draft {
     let mut draft = without_zeros(sized(&mut Random(0x5eed_4ead_be9c_0001), 64, 16, 512));
-    draft.deadline = Some(200_000);
+    (draft.deadline, draft.share) = (Some(200_000), None);
     draft.with_minimums(&[minimum; 16]).with_windows(&[])
 }
 
@@ -60,7 +60,7 @@ fn with_windows(draft: Draft) -> Draft {
 /// 64 tasks with labels of eight bytes, and as little as can be besides.
 fn labels() -> Draft {
     let mut draft = without_zeros(sized(&mut Random(0x5eed_4ead_be9c_0002), 64, 1, 0));
-    draft.deadline = None;
+    (draft.deadline, draft.share) = (None, None);
     draft.minimums = vec![None];
     draft.windows = Vec::new();
     for (label, _) in &mut draft.tasks {
@@ -72,17 +72,17 @@ fn labels() -> Draft {
 }
 
 fn main() {
-    let longest = with_windows(full(Some(10_000))).bytes();
+    let longest = with_windows(full(Some(10_000))).with_share(1_000).bytes();
     let (full, minimums) = (full(None).bytes(), full(Some(10_000)).bytes());
     let (labels, small) = (labels().bytes(), sample(28).bytes());
     let lengths = [full.len(), minimums.len(), longest.len(), small.len()];
-    assert_eq!(lengths, [MOST_BYTES - 672, MOST_BYTES - 640, MOST_BYTES, 84]);
+    assert_eq!(lengths, [MOST_BYTES - 675, MOST_BYTES - 643, MOST_BYTES, 84]);
     for request in [&full, &minimums, &longest, &labels, &small] {
         assert!(zabgurin::read(request).number == 0 && compare::read(request).is_ok());
     }
     compete("read the full request", &full, zabgurin::read, compare::read);
     compete("read it with 16 minimums", &minimums, zabgurin::read, compare::read);
-    compete("read it with these and 64 windows", &longest, zabgurin::read, compare::read);
+    compete("read it with these, 64 windows and a share", &longest, zabgurin::read, compare::read);
     compete("read one of labels", &labels, zabgurin::read, compare::read);
     compete("read S(28)", &small, zabgurin::read, compare::read);
     let last = |label: fn(&[u8], usize) -> &[u8]| move |request: &[u8]| label(request, 63).len();
