@@ -62,9 +62,12 @@ fn check_rows(draft: &Draft, (n, length, total): (u64, u64, u64), rows: &[Row]) 
     assert_eq!(length, rows.iter().map(|row| row.finish).max().unwrap());
 }
 
+/// What a processor is chosen by, from a task's finish and cost there.
+type Key = fn(u64, u64) -> (u64, u64);
+
 /// The rows of the plan in which each task goes to the processor of the least key, made of
 /// its finish and cost there; of equals to the lower number.
-fn placed_by(draft: &Draft, key: fn(u64, u64) -> (u64, u64)) -> Vec<Row> {
+fn placed_by(draft: &Draft, key: Key) -> Vec<Row> {
     let order = order(&read(&draft.bytes()).unwrap()).unwrap();
     let mut rows = vec![Row::default(); draft.tasks.len()];
     for (placed, &i) in order.iter().enumerate() {
@@ -99,7 +102,7 @@ fn budget_in_force(draft: &Draft) -> u64 {
 fn check_alone(draft: &Draft) {
     let request = draft.bytes();
     let mut totals = [0; 2];
-    let methods: [(Method, fn(u64, u64) -> (u64, u64)); 2] = [
+    let methods: [(Method, Key); 2] = [
         (Method::Cheapest, |finish, cost| (cost, finish)),
         (Method::Heft, |finish, cost| (finish, cost)),
     ];

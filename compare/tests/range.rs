@@ -129,7 +129,7 @@ fn share_0_to_1_000() {
     }
 }
 
-/// "4 for a `K` out of range, or for a nonzero budget in `H`, at the `K` record."
+/// "4 for a `K` out of range, or for a nonzero budget in `H`, at the `K` record" (A7).
 #[test]
 fn the_budget_beside_a_share_is_0() {
     for budget in [1, 28, 0x100, 0x1_0000, 0x100_0000, 20_000_000] {
