@@ -31,6 +31,13 @@ cost-most = 2_000 * 100
 abbrev pub total-most : ℕ
 total-most = 64 * cost-most
 
+-- What a share of the range is taken of: a thousand times a plan's cost. 12,800,000,000, which fits 64 bits.
+abbrev pub share-most : ℕ
+share-most = 1_000 * total-most
+
+pub share-fits : share-most < 2 ^ 64
+share-fits = omega arith
+
 -- RB, and what is left of the budget: the whole budget.
 abbrev pub budget-most : ℕ
 budget-most = 20_000_000

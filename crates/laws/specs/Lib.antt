@@ -23,5 +23,6 @@ pub mod StartLaws
 pub mod SameStart
 pub mod LatestFinish
 pub mod Begun
+pub mod InForce
 pub mod Filled
 pub mod FilledLaws

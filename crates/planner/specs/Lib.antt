@@ -1,5 +1,6 @@
 pub mod Planned
 pub mod Checks
 pub mod Plans
+pub mod Ready
 pub mod Reach
 pub mod Settled

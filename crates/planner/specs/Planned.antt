@@ -1,15 +1,16 @@
 -- What the planner's answers and arrays mean.
 use Prim.Native.Nat.{ℕ}
 use mathlib.Core.Path.{_≡_}
+use mathlib.Core.Bool.{Bool, true, false}
 use mathlib.Core.List.{List, []}
-use lib.Dec.{ltb}
 use Rattle.rules.specs.Workflow.{Workflow}
-use Rattle.rules.specs.Ranks.{cheapest-total}
 use Rattle.rules.specs.Rows.{Placed}
-use Rattle.rules.specs.Method.{HBCS}
-use Rattle.rules.specs.Placing.{place}
+use Rattle.rules.specs.Method.{Name, by-HBCS, by-cheapest, by-HEFT}
+use Rattle.rules.specs.Budget.{unbound, workflow-for}
 use Rattle.rules.specs.Answer as rules
-use Rattle.placing.specs.Placed.{Columns}
+use Rattle.reader.specs.declared.View.{View}
+use Rattle.reader.specs.Meaning.{meant-view}
+use Rattle.placing.specs.Placed.{Columns, all-rows}
 use Rattle.planner.specs.declared.Answer.{Answer}
 use Rattle.planner.specs.declared.Answer.the-variants as answer
 use Rattle.planner.specs.declared.Planning.{Planning}
@@ -34,10 +35,23 @@ abbrev pub planned-in : (processors starts finishes costs : List ℕ) → Answer
 planned-in processors starts finishes costs r =
     record { answer = r; processors = processors; starts = starts; finishes = finishes; costs = costs }
 
--- The checks from 9 on.
-unfoldable pub outcome-within : Workflow → rules.Outcome
-outcome-within W =
-    rules.refuse (ltb (W .budget) (cheapest-total W)) 9 (cheapest-total W) (rules.placed-outcome W (place HBCS W (W .tasks)))
+-- The workflow of a good request, by its view, with what is in force by the method that is asked for.
+abbrev pub workflow-by : Name → List ℕ → View → Workflow
+workflow-by M s v = workflow-for M s (meant-view v)
+
+-- The checks from 9 on, all tasks placed by the method.
+abbrev pub later-by : Name → Workflow → rules.Outcome
+later-by M W = rules.later-checks M W (all-rows M W)
+
+-- The plan by a method that is held to nothing.
+unfoldable pub plan-alone : Name → Workflow → rules.Outcome
+plan-alone M W = rules.plan (unbound W) (all-rows M (unbound W))
+
+-- Which methods are so.
+unfoldable pub held-to-none : Name → Bool
+held-to-none by-HBCS = false
+held-to-none by-cheapest = true
+held-to-none by-HEFT = true
 
 unfoldable pub rows-told : Answer → ℕ
 rows-told (answer.Planned n length cost left) = n

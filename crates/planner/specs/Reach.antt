@@ -13,10 +13,13 @@ use Rattle.rules.specs.Workflow.{Workflow, workflow}
 use Rattle.rules.specs.Cycle.{cyclic, lowest-in-cycle}
 use Rattle.rules.specs.Ranks.{cheapest-total}
 use Rattle.rules.specs.Rows.{Placed, length-of}
-use Rattle.rules.specs.Method.{HBCS}
+use Rattle.rules.specs.Method.{Name, by-HBCS, by-cheapest, by-HEFT, method}
 use Rattle.rules.specs.Placing.{place}
 use Rattle.rules.specs.Answer as rules
-use Rattle.rules.specs.Answer.{Outcome, plan, refuse, too-late, placed-outcome, outcome-of, outcome-by, outcome-read, outcome, answer-of}
+use Rattle.rules.specs.Budget.{workflow-for}
+use Rattle.rules.specs.Answer.{Outcome, plan, refuse, too-late, placed-outcome, checked, later-checks, outcome-of, outcome-by, outcome-read, outcome-asked}
+use Rattle.rules.specs.Answer.{answer-of}
+use Rattle.laws.specs.InForce.{tasks-held}
 use Rattle.good.specs.ReadIsGood.{read-is-good}
 use Rattle.planner.specs.declared.Answer.{Answer}
 use Rattle.planner.specs.declared.Answer.the-variants as answer
@@ -44,26 +47,32 @@ unfolding placed-outcome answer-of rows-due
 placed-within W rows =
     refused-or (too-late (W .deadline) (length-of rows)) 11 (length-of rows) (W .tasks) (plan W rows) (λ in-time. omega arith)
 
-pub outcome-by-within : (W : Workflow) (lent : ℕ) → rows-due (answer-of (outcome-by HBCS W lent)) ≤ min lent (W .tasks)
-unfolding outcome-by outcome-of
-outcome-by-within W lent =
+later-within : (M : Name) (W : Workflow) (rows : List Placed) → rows-due (answer-of (later-checks M W rows)) ≤ W .tasks
+unfolding later-checks answer-of rows-due
+later-within by-HBCS W rows =
+    refused-or (ltb (W .budget) (cheapest-total W)) 9 (cheapest-total W) (W .tasks) _ (λ within. placed-within W rows)
+later-within by-cheapest W rows = omega arith
+later-within by-HEFT W rows = omega arith
+
+pub outcome-by-within : (M : Name) (W : Workflow) (lent : ℕ) → rows-due (answer-of (outcome-by M W lent)) ≤ min lent (W .tasks)
+unfolding outcome-by outcome-of checked
+outcome-by-within M W lent =
     refused-or (ltb lent (W .tasks)) 7 (W .tasks) (min lent (W .tasks)) _
     (λ enough.
     refused-or (cyclic W) 8 (lowest-in-cycle W) (min lent (W .tasks)) _
-    (λ no-cycle.
-    refused-or (ltb (W .budget) (cheapest-total W)) 9 (cheapest-total W) (min lent (W .tasks)) _
-    (λ within. omega (arith, placed-within W (place HBCS W (W .tasks)), ltb-false lent (W .tasks) enough))))
+    (λ no-cycle. omega (arith, later-within M W (place (method M) W (W .tasks)), ltb-false lent (W .tasks) enough)))
 
-outcome-within-reach : (s : List ℕ) (lent : ℕ) → rows-due (answer-of (outcome s lent)) ≤ min lent 64
-unfolding outcome outcome-read answer-of rows-due workflow
-outcome-within-reach s lent = go (read-request s) refl
+outcome-within-reach : (M : Name) (s : List ℕ) (lent : ℕ) → rows-due (answer-of (outcome-asked M s lent)) ≤ min lent 64
+unfolding outcome-asked outcome-read answer-of rows-due workflow
+outcome-within-reach M s lent = go (read-request s) refl
   where
-    go : (answer : Read Request) → read-request s ≡ answer → rows-due (answer-of (outcome-read s answer lent)) ≤ min lent 64
-    go (read next r) e = omega (arith, outcome-by-within (workflow s r) lent, read-is-good s e .tasks-in .to-high)
+    go : (answer : Read Request) → read-request s ≡ answer → rows-due (answer-of (outcome-read M s answer lent)) ≤ min lent 64
+    go (read next r) e =
+        omega (arith, outcome-by-within M (workflow-for M s r) lent, tasks-held (r .share) (workflow s r) M, read-is-good s e .tasks-in .to-high)
     go (stopped number place) e = omega arith
 
 pub told-due : (o : Outcome) (a : Answer) → meant-answer a ≡ answer-of o → rows-told a ≡ rows-due (answer-of o)
 told-due o a is = rows-told-due a ∙ ap rows-due is
 
-pub rows-in-reach : (s : List ℕ) (lent : ℕ) (a : Answer) → meant-answer a ≡ answer-of (outcome s lent) → rows-told a ≤ min lent 64
-rows-in-reach s lent a is = rw (told-due (outcome s lent) a is) (outcome-within-reach s lent)
+pub rows-in-reach : (M : Name) (s : List ℕ) (lent : ℕ) (a : Answer) → meant-answer a ≡ answer-of (outcome-asked M s lent) → rows-told a ≤ min lent 64
+rows-in-reach M s lent a is = rw (told-due (outcome-asked M s lent) a is) (outcome-within-reach M s lent)

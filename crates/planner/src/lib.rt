@@ -1,17 +1,25 @@
-// The plan of a request: the answer, and its rows in four arrays.
+// The plan of a request by the method that is asked for: the answer, and its rows in four arrays.
+ghost use Prim.Native.Nat.{_≤_};
 ghost use mathlib.Core.Path.{_≡_};
 ghost use mathlib.Core.Bool.{false};
 ghost use mathlib.Core.List.{[]};
 ghost use Rattle.rules.specs.Cycle.{cyclic};
-ghost use Rattle.rules.specs.Method.{HBCS};
-ghost use Rattle.rules.specs.Answer.{too-late, outcome-by, outcome};
-ghost use Rattle.reader.specs.Meaning.{ViewOf, meant-deadline};
+ghost use Rattle.rules.specs.Ranks.{cheapest-total};
+ghost use Rattle.rules.specs.Method.{by-HBCS};
+ghost use Rattle.rules.specs.Budget.{budget-between, budget-of};
+ghost use Rattle.rules.specs.Answer.{too-late, outcome-by, outcome-asked};
+ghost use Rattle.laws.specs.Bounds.{total-most, budget-most};
+ghost use Rattle.choosing.specs.Named.{meant-method};
+ghost use Rattle.reader.specs.Meaning.{ViewOf, meant-deadline, meant-share};
 ghost use Rattle.lookup.specs.Lookup.{workflow-of};
+ghost use Rattle.charges.specs.Charges.{ChargesOf};
 ghost use Rattle.successors.specs.Begins.{BeginsFrom};
 ghost use Rattle.placing.specs.Placed.{RanksOf, Columns};
-ghost use Rattle.planner.specs.Planned.{PlanOf, planned-in, outcome-within, rows-told};
+ghost use Rattle.planner.specs.Planned.{PlanOf, planned-in, workflow-by, later-by, plan-alone, held-to-none, rows-told};
+use choosing::Method;
 use reader::Deadline;
 use reader::Reading;
+use reader::Share;
 use reader::View;
 
 // "Either a plan summary (n, length, cost, budget left) or a refusal (number, place)."
@@ -47,26 +55,97 @@ fn too_late(deadline: Deadline, length: u64) -> bool
     }
 }
 
-// What the processors charge is read once, and so are their windows. Then check 9, placing, and check 11, which takes the rows back.
-fn plan_ranked(
+// "budget = cheapest + floor(k x (HEFT cost - cheapest) / 1000)"
+fn budget_between(k: u64, cheapest: u64, heft_cost: u64) -> u64
+    requires { ⌜ (k ≤ 1_000) × (cheapest ≤ total-most) × («heft_cost» ≤ total-most) ⌝ }
+    ensures { λ r. ⌜ (r ≡ budget-between k cheapest «heft_cost») × (r ≤ budget-most) ⌝ }
+{
+    cheapest + k * numbers::less(heft_cost, cheapest) / 1_000
+}
+
+// The budget in force: that of `H`, or the one that a `K` sets. For this the HEFT plan is placed, and its rows are taken back.
+fn budget_of<'a>(
     s: &[u8],
     v: View,
+    prices: &'a [u64; 16],
+    minimums: &'a [u64; 16],
     ranks: &[u64; 64],
     edges_at: &[u16; 65],
+    cheapest: u64,
+    processors: &mut [u64; 64],
+    starts: &mut [u64; 64],
+    finishes: &mut [u64; 64],
+    costs: &mut [u64; 64],
+) -> u64
+    requires { ⌜ ViewOf (now s) v ⌝ }
+    requires { ⌜ RanksOf (workflow-of (now s) v) (now ranks) × (cheapest ≡ cheapest-total (workflow-of (now s) v)) × ChargesOf (workflow-of (now s) v) (now prices) (now minimums) ⌝ }
+    requires { ⌜ (cyclic (workflow-of (now s) v) ≡ false) × BeginsFrom (workflow-of (now s) v) 0 (now «edges_at») × (cheapest ≤ total-most) ⌝ }
+    requires { ⌜ Columns [] (now processors) (now starts) (now finishes) (now costs) ⌝ }
+    ensures { λ r. ⌜ (r ≡ budget-of (meant-share (v .share)) (workflow-of (now (s .entry)) v)) × (r ≤ budget-most) × Columns [] (now (processors .exit)) (now (starts .exit)) (now (finishes .exit)) (now (costs .exit)) ⌝ }
+{
+    let share = v.share;
+    let Share::Of(k) = share else {
+        return v.budget;
+    };
+    let outset = downtime::busy_at_first(s, v);
+    let p = placing::place(
+        s,
+        v,
+        Method::Heft,
+        0,
+        prices,
+        minimums,
+        ranks,
+        edges_at,
+        cheapest,
+        outset,
+        0,
+        processors,
+        starts,
+        finishes,
+        costs,
+    );
+    *processors = [0u64; 64];
+    *starts = [0u64; 64];
+    *finishes = [0u64; 64];
+    *costs = [0u64; 64];
+    budget_between(k, cheapest, p.cost)
+}
+
+// HBCS: check 9, placing within the budget in force, and check 11, which takes the rows back.
+fn plan_within<'a>(
+    s: &[u8],
+    v: View,
+    prices: &'a [u64; 16],
+    minimums: &'a [u64; 16],
+    ranks: &[u64; 64],
+    edges_at: &[u16; 65],
+    cheapest: u64,
     processors: &mut [u64; 64],
     starts: &mut [u64; 64],
     finishes: &mut [u64; 64],
     costs: &mut [u64; 64],
 ) -> Answer
     requires { ⌜ ViewOf (now s) v ⌝ }
-    requires { ⌜ RanksOf (workflow-of (now s) v) (now ranks) ⌝ }
-    requires { ⌜ (cyclic (workflow-of (now s) v) ≡ false) × BeginsFrom (workflow-of (now s) v) 0 (now «edges_at») ⌝ }
+    requires { ⌜ RanksOf (workflow-of (now s) v) (now ranks) × (cheapest ≡ cheapest-total (workflow-of (now s) v)) × ChargesOf (workflow-of (now s) v) (now prices) (now minimums) ⌝ }
+    requires { ⌜ (cyclic (workflow-of (now s) v) ≡ false) × BeginsFrom (workflow-of (now s) v) 0 (now «edges_at») × (cheapest ≤ total-most) ⌝ }
     requires { ⌜ Columns [] (now processors) (now starts) (now finishes) (now costs) ⌝ }
-    ensures { λ r. ⌜ PlanOf (outcome-within (workflow-of (now (s .entry)) v)) (planned-in (now (processors .exit)) (now (starts .exit)) (now (finishes .exit)) (now (costs .exit)) r) ⌝ }
+    ensures { λ r. ⌜ PlanOf (later-by by-HBCS (workflow-by by-HBCS (now (s .entry)) v)) (planned-in (now (processors .exit)) (now (starts .exit)) (now (finishes .exit)) (now (costs .exit)) r) ⌝ }
 {
-    let charges = charges::charges_of(s, v);
-    let cheapest = costs::cheapest_total(s, v, &charges.prices, &charges.minimums);
-    if v.budget < cheapest {
+    let budget = budget_of(
+        s,
+        v,
+        prices,
+        minimums,
+        ranks,
+        edges_at,
+        cheapest,
+        processors,
+        starts,
+        finishes,
+        costs,
+    );
+    if budget < cheapest {
         return Answer::Refused {
             number: 9,
             place: cheapest,
@@ -76,8 +155,10 @@ fn plan_ranked(
     let p = placing::place(
         s,
         v,
-        &charges.prices,
-        &charges.minimums,
+        Method::Hbcs,
+        budget,
+        prices,
+        minimums,
         ranks,
         edges_at,
         cheapest,
@@ -107,11 +188,121 @@ fn plan_ranked(
     }
 }
 
+// "Asked for alone, these two are held to no budget", so that nothing is left of it.
+fn plan_alone<'a>(
+    s: &[u8],
+    v: View,
+    method: Method,
+    prices: &'a [u64; 16],
+    minimums: &'a [u64; 16],
+    ranks: &[u64; 64],
+    edges_at: &[u16; 65],
+    cheapest: u64,
+    processors: &mut [u64; 64],
+    starts: &mut [u64; 64],
+    finishes: &mut [u64; 64],
+    costs: &mut [u64; 64],
+) -> Answer
+    requires { ⌜ ViewOf (now s) v ⌝ }
+    requires { ⌜ RanksOf (workflow-of (now s) v) (now ranks) × (cheapest ≡ cheapest-total (workflow-of (now s) v)) × ChargesOf (workflow-of (now s) v) (now prices) (now minimums) ⌝ }
+    requires { ⌜ (cyclic (workflow-of (now s) v) ≡ false) × BeginsFrom (workflow-of (now s) v) 0 (now «edges_at») × (cheapest ≤ total-most) ⌝ }
+    requires { ⌜ Columns [] (now processors) (now starts) (now finishes) (now costs) ⌝ }
+    ensures { λ r. ⌜ PlanOf (plan-alone (meant-method method) (workflow-of (now (s .entry)) v)) (planned-in (now (processors .exit)) (now (starts .exit)) (now (finishes .exit)) (now (costs .exit)) r) ⌝ }
+{
+    let outset = downtime::busy_at_first(s, v);
+    let p = placing::place(
+        s,
+        v,
+        method,
+        0,
+        prices,
+        minimums,
+        ranks,
+        edges_at,
+        cheapest,
+        outset,
+        0,
+        processors,
+        starts,
+        finishes,
+        costs,
+    );
+    Answer::Planned {
+        n: v.tasks as u64,
+        length: p.length,
+        cost: p.cost,
+        left: 0,
+    }
+}
+
+// Whether a method is held to no budget.
+fn alone(method: Method) -> bool
+    ensures { λ r. ⌜ r ≡ held-to-none (meant-method method) ⌝ }
+{
+    match method {
+        Method::Hbcs => false,
+        Method::Cheapest => true,
+        Method::Heft => true,
+    }
+}
+
+// What the processors charge is read once. Then the plan by the method.
+fn plan_ranked(
+    s: &[u8],
+    v: View,
+    method: Method,
+    ranks: &[u64; 64],
+    edges_at: &[u16; 65],
+    processors: &mut [u64; 64],
+    starts: &mut [u64; 64],
+    finishes: &mut [u64; 64],
+    costs: &mut [u64; 64],
+) -> Answer
+    requires { ⌜ ViewOf (now s) v ⌝ }
+    requires { ⌜ RanksOf (workflow-of (now s) v) (now ranks) ⌝ }
+    requires { ⌜ (cyclic (workflow-of (now s) v) ≡ false) × BeginsFrom (workflow-of (now s) v) 0 (now «edges_at») ⌝ }
+    requires { ⌜ Columns [] (now processors) (now starts) (now finishes) (now costs) ⌝ }
+    ensures { λ r. ⌜ PlanOf (later-by (meant-method method) (workflow-by (meant-method method) (now (s .entry)) v)) (planned-in (now (processors .exit)) (now (starts .exit)) (now (finishes .exit)) (now (costs .exit)) r) ⌝ }
+{
+    let charges = charges::charges_of(s, v);
+    let cheapest = costs::cheapest_total(s, v, &charges.prices, &charges.minimums);
+    if alone(method) {
+        return plan_alone(
+            s,
+            v,
+            method,
+            &charges.prices,
+            &charges.minimums,
+            ranks,
+            edges_at,
+            cheapest,
+            processors,
+            starts,
+            finishes,
+            costs,
+        );
+    }
+    plan_within(
+        s,
+        v,
+        &charges.prices,
+        &charges.minimums,
+        ranks,
+        edges_at,
+        cheapest,
+        processors,
+        starts,
+        finishes,
+        costs,
+    )
+}
+
 // The plan of a good request, by its view, with so many rows lent: checks 7 and 8, then the rest. Its rows stand in four lent arrays, which have none at first;
 // 0 past the last task, and in all of them for a refusal.
 pub fn plan_good(
     s: &[u8],
     v: View,
+    method: Method,
     lent: usize,
     processors: &mut [u64; 64],
     starts: &mut [u64; 64],
@@ -120,7 +311,7 @@ pub fn plan_good(
 ) -> Answer
     requires { ⌜ ViewOf (now s) v ⌝ }
     requires { ⌜ Columns [] (now processors) (now starts) (now finishes) (now costs) ⌝ }
-    ensures { λ r. ⌜ PlanOf (outcome-by HBCS (workflow-of (now (s .entry)) v) lent) (planned-in (now (processors .exit)) (now (starts .exit)) (now (finishes .exit)) (now (costs .exit)) r) ⌝ }
+    ensures { λ r. ⌜ PlanOf (outcome-by (meant-method method) (workflow-by (meant-method method) (now (s .entry)) v) lent) (planned-in (now (processors .exit)) (now (starts .exit)) (now (finishes .exit)) (now (costs .exit)) r) ⌝ }
 {
     if lent < v.tasks {
         return Answer::Refused {
@@ -131,7 +322,17 @@ pub fn plan_good(
     let edges_at = successors::begins_all(s, v);
     let mut ranks = [0u64; 64];
     if ranking::rank_all(s, v, &edges_at, &mut ranks) {
-        return plan_ranked(s, v, &ranks, &edges_at, processors, starts, finishes, costs);
+        return plan_ranked(
+            s,
+            v,
+            method,
+            &ranks,
+            &edges_at,
+            processors,
+            starts,
+            finishes,
+            costs,
+        );
     }
     Answer::Refused {
         number: 8,
@@ -139,10 +340,11 @@ pub fn plan_good(
     }
 }
 
-// The plan of a request with so many rows lent: checks 1 to 6, then 7, 8, 9, then placing, then 11. Its rows stand in four lent arrays, as those of a good
-// request do.
+// The plan of a request by a method, with so many rows lent: checks 1 to 6, then 7, 8, and for HBCS 9, then placing, then 11. Its rows stand in four lent arrays, as
+// those of a good request do.
 pub fn plan_columns(
     request: &[u8],
+    method: Method,
     lent: usize,
     processors: &mut [u64; 64],
     starts: &mut [u64; 64],
@@ -150,11 +352,20 @@ pub fn plan_columns(
     costs: &mut [u64; 64],
 ) -> Answer
     requires { ⌜ Columns [] (now processors) (now starts) (now finishes) (now costs) ⌝ }
-    ensures { λ r. ⌜ PlanOf (outcome (now (request .entry)) lent) (planned-in (now (processors .exit)) (now (starts .exit)) (now (finishes .exit)) (now (costs .exit)) r) ⌝ }
+    ensures { λ r. ⌜ PlanOf (outcome-asked (meant-method method) (now (request .entry)) lent) (planned-in (now (processors .exit)) (now (starts .exit)) (now (finishes .exit)) (now (costs .exit)) r) ⌝ }
 {
     let reading = reader::read_request(request);
     match reading {
-        Reading::Good(v) => plan_good(request, v, lent, processors, starts, finishes, costs),
+        Reading::Good(v) => plan_good(
+            request,
+            v,
+            method,
+            lent,
+            processors,
+            starts,
+            finishes,
+            costs,
+        ),
         Reading::Refused(number, place) => Answer::Refused {
             number,
             place: place as u64,
@@ -162,9 +373,9 @@ pub fn plan_columns(
     }
 }
 
-// The plan of a request with so many rows lent, by value.
-pub fn plan(request: &[u8], lent: usize) -> Planning
-    ensures { λ r. ⌜ PlanOf (outcome (now (request .entry)) lent) r ⌝ }
+// The plan of a request by a method, with so many rows lent, by value.
+pub fn plan(request: &[u8], method: Method, lent: usize) -> Planning
+    ensures { λ r. ⌜ PlanOf (outcome-asked (meant-method method) (now (request .entry)) lent) r ⌝ }
 {
     let mut processors = [0u64; 64];
     let mut starts = [0u64; 64];
@@ -172,6 +383,7 @@ pub fn plan(request: &[u8], lent: usize) -> Planning
     let mut costs = [0u64; 64];
     let answer = plan_columns(
         request,
+        method,
         lent,
         &mut processors,
         &mut starts,

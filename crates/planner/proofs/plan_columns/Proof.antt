@@ -1,6 +1,6 @@
 -- By the cases of the reading: a refusal handed up, or the plan of a good request.
 use mathlib.Core.Path.{sym, ap, _∙_}
-use Rattle.rules.specs.Answer.{outcome, outcome-read}
+use Rattle.rules.specs.Answer.{outcome-asked, outcome-read}
 use Rattle.reader.specs.Meaning.{meant-reading}
 use Rattle.planner.specs.Plans.{refused-plan}
 use borrow.Author.Needs.{needs}
@@ -22,13 +22,13 @@ enum-known-reading-2 : tie.Need-enum-known-reading-2
 enum-known-reading-2 c = search needs
 
 returns : tie.Need-returns
-unfolding outcome outcome-read
+unfolding outcome-asked outcome-read
 returns c =
     let s = c .before .before .before .before .before .before .before .before .before .before .args .request .now in
     rw (sym (c .before .before .before .before .before .before .before .before .read-request .ensures) ∙ ap (meant-reading s) (c .before .before .before .before .before .before .reading .given .1)) (c .plan-good .ensures)
 
 returns-2 : tie.Need-returns-2
-unfolding outcome outcome-read
+unfolding outcome-asked outcome-read
 returns-2 c =
     let start = c .before .before .before .before .before in
     let s = start .args .request .now in

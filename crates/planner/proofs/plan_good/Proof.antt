@@ -5,6 +5,8 @@ use borrow.Author.Needs.{needs}
 use borrow.Author.Tests.{not-true, not-false}
 use Rattle.rules.specs.Workflow.{workflow}
 use Rattle.rules.specs.Cycle.{cyclic}
+use Rattle.choosing.specs.Named.{meant-method}
+use Rattle.reader.specs.Meaning.{meant-share}
 use Rattle.lookup.specs.Lookup.{workflow-of}
 use Rattle.lookup.specs.Views.{view-in-range}
 use Rattle.ranking.specs.RankedLaws.{ranked-none}
@@ -18,7 +20,7 @@ unfolding workflow
 returns c =
     let start = c .before .before .before in
     let a = start .args in
-    rw (too-few-rows (workflow-of (a .s .now) (a .v)) (a .lent) (c .if1 .taken)) (refused-plan (start .pre .1) 7 _)
+    rw (too-few-rows (meant-method (a .method)) (meant-share (a .v .share)) (workflow-of (a .s .now) (a .v)) (a .lent) (c .if1 .taken)) (refused-plan (start .pre .1) 7 _)
 
 begins-all-requires : tie.Need-begins-all-requires
 begins-all-requires c κs = search needs
@@ -44,7 +46,7 @@ returns-2 : tie.Need-returns-2
 unfolding workflow
 returns-2 c =
     let a = c .before .before .before .before .before .before .before .before .before .before .before .before .before .before .before .args in
-    rw (without-cycle (workflow-of (a .s .now) (a .v)) (a .lent) (c .before .before .before .before .before .before .before .before .before .before .before .before .if1 .left) (no-cycle (c .before .before .before .before .before .before .before))) (c .plan-ranked .ensures)
+    rw (without-cycle (meant-method (a .method)) (meant-share (a .v .share)) (workflow-of (a .s .now) (a .v)) (a .lent) (c .before .before .before .before .before .before .before .before .before .before .before .before .if1 .left) (no-cycle (c .before .before .before .before .before .before .before))) (c .plan-ranked .ensures)
 
 lowest-in-cycle-requires : tie.Need-lowest-in-cycle-requires
 lowest-in-cycle-requires c κs =
@@ -57,7 +59,7 @@ returns-3 c =
     let a = start .args in
     let ranked = c .before .before .rank-all .ensures in
     rw (
-      with-cycle (workflow-of (a .s .now) (a .v)) (a .lent) (c .before .before .before .before .before .before .if1 .left) (not-false _ (sym (ranked .all-unless-cyclic) ∙ c .before .if2 .left)),
+      with-cycle (meant-method (a .method)) (meant-share (a .v .share)) (workflow-of (a .s .now) (a .v)) (a .lent) (c .before .before .before .before .before .before .if1 .left) (not-false _ (sym (ranked .all-unless-cyclic) ∙ c .before .if2 .left)),
       ← c .lowest-in-cycle .ensures,
     )
     (refused-plan (start .pre .1) 8 _)
