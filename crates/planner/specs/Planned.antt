@@ -8,17 +8,25 @@ use Rattle.rules.specs.Rows.{Placed}
 use Rattle.rules.specs.Method.{Name, by-HBCS, by-cheapest, by-HEFT}
 use Rattle.rules.specs.Budget.{unbound, workflow-for}
 use Rattle.rules.specs.Answer as rules
+use Rattle.rules.specs.Range.{Range, between, no-range}
 use Rattle.reader.specs.declared.View.{View}
 use Rattle.reader.specs.Meaning.{meant-view}
 use Rattle.placing.specs.Placed.{Columns, all-rows}
 use Rattle.planner.specs.declared.Answer.{Answer}
 use Rattle.planner.specs.declared.Answer.the-variants as answer
+use Rattle.planner.specs.declared.Costs.{Costs}
+use Rattle.planner.specs.declared.Costs.the-variants as costs
 use Rattle.planner.specs.declared.Planning.{Planning}
 
 -- What the code's answer means: document 01's summary, or its number and place.
 unfoldable pub meant-answer : Answer → rules.Answer
 meant-answer (answer.Planned n length cost left) = rules.planned n length cost left
 meant-answer (answer.Refused number place) = rules.refused number place
+
+-- What the code's costs mean: the range.
+unfoldable pub meant-costs : Costs → Range
+meant-costs (costs.Between cheapest heft) = between cheapest heft
+meant-costs (costs.Refused number place) = no-range number place
 
 -- The rows of an outcome; a refusal has none.
 unfoldable pub rows-in : rules.Outcome → List Placed

@@ -7,7 +7,9 @@ ghost use Rattle.rules.specs.Cycle.{cyclic};
 ghost use Rattle.rules.specs.Ranks.{cheapest-total};
 ghost use Rattle.rules.specs.Method.{by-HBCS};
 ghost use Rattle.rules.specs.Budget.{budget-between, budget-of};
-ghost use Rattle.rules.specs.Answer.{too-late, outcome-by, outcome-asked};
+ghost use Rattle.rules.specs.Answer.{too-late, outcome-by, outcome-asked, answer-asked};
+ghost use Rattle.rules.specs.Range as rules;
+ghost use Rattle.rules.specs.Range.{range-of};
 ghost use Rattle.laws.specs.Bounds.{total-most, budget-most};
 ghost use Rattle.choosing.specs.Named.{meant-method};
 ghost use Rattle.reader.specs.Meaning.{ViewOf, meant-deadline, meant-share};
@@ -15,7 +17,7 @@ ghost use Rattle.lookup.specs.Lookup.{workflow-of};
 ghost use Rattle.charges.specs.Charges.{ChargesOf};
 ghost use Rattle.successors.specs.Begins.{BeginsFrom};
 ghost use Rattle.placing.specs.Placed.{RanksOf, Columns};
-ghost use Rattle.planner.specs.Planned.{PlanOf, planned-in, workflow-by, later-by, plan-alone, held-to-none, rows-told};
+ghost use Rattle.planner.specs.Planned.{meant-answer, meant-costs, PlanOf, planned-in, workflow-by, later-by, plan-alone, held-to-none, rows-told};
 use choosing::Method;
 use reader::Deadline;
 use reader::Reading;
@@ -415,4 +417,64 @@ pub fn rows_of(answer: Answer) -> u64
             place: _,
         } => 0,
     }
+}
+
+// The answer by a method with 64 rows lent, which are not looked at.
+fn answered(request: &[u8], method: Method) -> Answer
+    ensures { λ r. ⌜ meant-answer r ≡ answer-asked (meant-method method) (now (request .entry)) 64 ⌝ }
+{
+    let mut processors = [0u64; 64];
+    let mut starts = [0u64; 64];
+    let mut finishes = [0u64; 64];
+    let mut costs = [0u64; 64];
+    plan_columns(
+        request,
+        method,
+        64,
+        &mut processors,
+        &mut starts,
+        &mut finishes,
+        &mut costs,
+    )
+}
+
+// "the cheapest plan's cost, the HEFT plan's cost; or the refusal": number, place.
+pub enum Costs {
+    Between { cheapest: u64, heft: u64 },
+    Refused { number: u64, place: u64 },
+}
+
+// What two answers cost.
+fn costs_of(cheapest: Answer, heft: Answer) -> Costs
+    ensures { λ r. ⌜ meant-costs r ≡ range-of (meant-answer cheapest) (meant-answer heft) ⌝ }
+{
+    match cheapest {
+        Answer::Planned {
+            n: _,
+            length: _,
+            cost: low,
+            left: _,
+        } => match heft {
+            Answer::Planned {
+                n: _,
+                length: _,
+                cost: high,
+                left: _,
+            } => Costs::Between {
+                cheapest: low,
+                heft: high,
+            },
+            Answer::Refused { number, place } => Costs::Refused { number, place },
+        },
+        Answer::Refused { number, place } => Costs::Refused { number, place },
+    }
+}
+
+// The range that a budget is set in: what the cheapest plan and the HEFT plan cost, each asked for alone.
+pub fn range(request: &[u8]) -> Costs
+    ensures { λ r. ⌜ meant-costs r ≡ rules.range (now (request .entry)) ⌝ }
+{
+    let cheapest = answered(request, Method::Cheapest);
+    let heft = answered(request, Method::Heft);
+    costs_of(cheapest, heft)
 }
