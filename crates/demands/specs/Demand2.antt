@@ -1,9 +1,10 @@
--- Demand 2: the plan is the method's. Stated of what the caller gets: the answer, and the rows after the call, in lent rows or in four buffers.
+-- Demand 2: the plan is the method's, by each of the three. Stated of what the caller gets: the answer, and the rows after the call, in lent rows or in four buffers.
 -- Below: what is due for a workflow, refusals too (`WhatIsDue`), and that it is settled (`DueSettled`); the order of the tasks (`PlacingOrder`),
 -- which is document 01's where no minutes are 0 (`WithoutZeros`); the choice for each in document 01's words (`ChoiceAsWritten`) and as equation (10)
 -- (`Worthiness`), and that one can always be taken (`Affordable`); the start of each in document 02's words (`StartAsWritten`), its cost by the record
 -- of its processor (`CostAsWritten`), and that no machine runs it in one of the windows that stand in the request (`WindowsAsWritten`); R and HEFT's rank
--- (`HEFTRank`, `HEFTSettled`); when money is the reason (`RefusalNine`). The other files are what these rest on.
+-- (`HEFTRank`, `HEFTSettled`); when money is the reason (`RefusalNine`); the cheapest and the HEFT plan, and the budget that a `K` sets (`TwoPlans`); the range that is
+-- told (`BudgetRange`). The other files are what these rest on.
 pub mod Lookup
 pub mod Refusals
 pub mod HBCSChoice
@@ -31,6 +32,7 @@ pub mod StartAsWritten
 pub mod CostAsWritten
 pub mod WindowsAsWritten
 pub mod TwoPlans
+pub mod BudgetRange
 use Prim.Native.Nat.{ℕ, _+_, _-_, _≤_, _<_}
 use mathlib.Core.Path.{_≡_, refl, sym, ap, subst, _∙_}
 use mathlib.Core.Bool.{false}

@@ -1,9 +1,8 @@
 -- What is in force for a multiplied workflow: the budget of `H`, and the one that a `K` of 0 or of 1,000 sets, are a times b times; without a budget and a deadline
 -- there is none in either.
-use Prim.Native.Nat.{ℕ, _+_, _*_, _-_, _/_, _≤_}
+use Prim.Native.Nat.{ℕ, _+_, _*_, _-_, _≤_}
 use mathlib.Core.Path.{_≡_, refl, sym, ap, ap₂, _∙_}
 use native.Mathlib.Nat.{mul-zero, mul-add, mul-sub}
-use native.Mathlib.Omega.{arith}
 use Rattle.rules.specs.Reading.{Share, no-share, thousandths}
 use Rattle.rules.specs.Workflow.{Workflow}
 use Rattle.rules.specs.Ranks.{cheapest-total}
@@ -12,6 +11,7 @@ use Rattle.rules.specs.Method.{HEFT, Name, by-HBCS, by-cheapest, by-HEFT}
 use Rattle.rules.specs.Placing.{place}
 use Rattle.rules.specs.Budget.{in-force, unbound, cost-alone, budget-between, budget-of, held-to}
 use Rattle.rules.specs.Multiplied.{multiplied, multiplied-deadline}
+use Rattle.demands.specs.Demand2.TwoPlans.{at-0, at-1000}
 use Rattle.demands.specs.Demand3.HBCSMultiplied.{HEFT-keeps-choices}
 use Rattle.demands.specs.Demand3.CostsMultiplied.{cheapest-total-multiplied}
 use Rattle.demands.specs.Demand3.RowsMultiplied.{spent-multiplied}
@@ -22,15 +22,6 @@ pub data ExactShare : Share → Type 0 where
   no-K : ExactShare no-share
   lowest : ExactShare (thousandths 0)
   highest : ExactShare (thousandths 1_000)
-
--- At the ends of the range nothing is rounded.
-pub at-0 : (low high : ℕ) → budget-between 0 low high ≡ low
-unfolding budget-between
-at-0 low high = omega arith
-
-pub at-1000 : (low high : ℕ) → budget-between 1_000 low high ≡ low + (high - low)
-unfolding budget-between
-at-1000 low high = omega arith
 
 module _ (a b : ℕ) (pa : 1 ≤ a) (pb : 1 ≤ b) (W : Workflow) where
   unbound-multiplied : unbound (multiplied a b W) ≡ multiplied a b (unbound W)
