@@ -1,4 +1,4 @@
--- Cases beside the starred ones, where slips that look right would change the answer: one list, one theorem.
+-- Cases beside the starred ones, where slips that look right would change the answer: for each method one list, one theorem.
 use Prim.Native.Nat.{ℕ, _*_}
 use Prim.Native.String.{String}
 use mathlib.Core.Path.{_≡_, refl}
@@ -6,11 +6,13 @@ use mathlib.Core.List.{List, [], _∷_, _++_}
 use lib.ListN.{take, drop}
 use Rattle.rules.specs.Fields.{P, Q}
 use Rattle.rules.specs.Labels.{empty-start, label-lookup, label}
+use Rattle.rules.specs.Method.{by-cheapest, by-HEFT}
 use Rattle.rules.specs.Answer.{planned, refused, answer}
 use Rattle.rules.specs.Buffers.{Buffers, rows-lent, row-in, column-after, buffers-written, buffers-asked, buffers-after}
-use Rattle.rules.specs.Text.{bytes}
-use Rattle.rules.specs.Cases.{H-record, D-record, P-record, Q-record, M-record, T-record, W-record, E-record, row, Case, refused-case, planned-case}
-use Rattle.rules.specs.Cases.{given, All-given, answer-multiplied, kinds-in, kinds}
+use Rattle.rules.specs.Text.{bytes, text-asked}
+use Rattle.rules.specs.Range.{between, no-range, range, range-text}
+use Rattle.rules.specs.Cases.{H-record, D-record, K-record, P-record, Q-record, M-record, T-record, W-record, E-record, row, four-rows, Case}
+use Rattle.rules.specs.Cases.{refused-case, planned-case, given, All-given, given-by, All-given-by, answer-multiplied, kinds-in, kinds}
 use Rattle.rules.specs.Starred.{sample, S}
 
 -- Two tasks whose means on two processors differ by less than a minute, so that only the sums part them: task 1 comes first, at any a.
@@ -176,6 +178,28 @@ marker-for-two =
 abbrev pub with-processors : List ℕ → List ℕ → List ℕ
 with-processors processors sample = take 7 sample ++ processors ++ drop 13 sample
 
+-- The sample with budget 0, and with these records at offset 7, behind its `H`.
+pub S-with : List ℕ → List ℕ
+S-with records = sample 1 1 0 "prep    " records []
+
+-- The sample where processor 1 is down from 4 to 11: its HEFT plan has left on processor 0, and costs 26.
+pub down-early : List ℕ → List ℕ
+down-early share = with-processors (share ++ P-record 0 1 ++ P-record 1 3 ++ M-record 1 4 11) (S 0)
+
+-- The sample's plans by what they cost, with this much left: the cheapest, the one between, the HEFT plan.
+for-24 : List ℕ → ℕ → Case
+for-24 input left = planned-case input (planned 3 18 24 left) (row 0 0 10 10 ∷ row 0 10 18 8 ∷ row 1 13 15 6 ∷ [])
+
+for-26 : List ℕ → ℕ → Case
+for-26 input left = planned-case input (planned 3 14 26 left) (row 1 0 4 12 ∷ row 0 6 14 8 ∷ row 1 4 6 6 ∷ [])
+
+for-30 : List ℕ → ℕ → Case
+for-30 input left = planned-case input (planned 3 10 30 left) (row 1 0 4 12 ∷ row 1 4 8 12 ∷ row 1 8 10 6 ∷ [])
+
+-- Two rows lent for the sample's three tasks.
+two-rows-lent : List ℕ → Case
+two-rows-lent input = record { input = input; lent = take 2 four-rows; due = record { answer = refused 7 3; rows = take 2 four-rows } }
+
 pub corners : List Case
 corners =
     planned-case (near-means 1) (planned 2 1 2 8) (row 1 0 1 1 ∷ row 0 0 1 1 ∷ [])
@@ -264,15 +288,229 @@ corners =
     ∷ refused-case (billed 4 0 2 5) 9 5
     ∷ planned-case (billed 4_000 2_000 2 5) (planned 1 2_000 4_000 0) (row 0 0 2_000 4_000 ∷ [])
     ∷ refused-case (billed 20 2_001 2 5) 4 22
+    ∷ for-24 (S-with (K-record 0)) 0
+    ∷ for-24 (S-with (K-record 258)) 1
+    ∷ for-24 (S-with (K-record 333)) 1
+    ∷ for-26 (S-with (K-record 334)) 0
+    ∷ for-26 (S-with (K-record 513)) 1
+    ∷ for-26 (S-with (K-record 666)) 1
+    ∷ for-26 (S-with (K-record 667)) 2
+    ∷ for-26 (S-with (K-record 999)) 3
+    ∷ for-30 (S-with (K-record 1_000)) 0
+    ∷ refused-case (S-with (K-record 1_001)) 4 7
+    ∷ refused-case (sample 1 1 1 "prep    " (K-record 667) []) 4 7
+    ∷ refused-case (take 9 (sample 1 1 1 "prep    " (K-record 667) [])) 1 7
+    ∷ refused-case (take 9 (S-with (K-record 667))) 1 7
+    ∷ refused-case (take 10 (S-with (K-record 667))) 1 10
+    ∷ refused-case (S-with (D-record 13 ++ K-record 667)) 11 14
+    ∷ for-26 (S-with (D-record 14 ++ K-record 667)) 2
+    ∷ refused-case (S-with (D-record 14 ++ K-record 1_001)) 4 12
+    ∷ refused-case (S-with (K-record 667 ++ D-record 14)) 2 10
+    ∷ refused-case (S-with (K-record 667 ++ K-record 667)) 2 10
+    ∷ refused-case (with-processors (P-record 0 1 ++ K-record 667 ++ P-record 1 3) (S 0)) 2 10
+    ∷ refused-case (sample 1 1 0 "prep    " (K-record 667) (E-record 1 0 0)) 8 0
+    ∷ two-rows-lent (S-with (K-record 667))
+    ∷ for-24 (down-early (K-record 999)) 1
+    ∷ planned-case (down-early (K-record 1_000)) (planned 3 14 26 0) (row 1 0 4 12 ∷ row 0 6 14 8 ∷ row 1 11 13 6 ∷ [])
+    ∷ planned-case (with-processors (K-record 1_000 ++ P-record 0 1 ++ P-record 1 3 ++ M-record 1 0 20) (S 0)) (planned 3 22 24 0)
+    (row 0 0 10 10 ∷ row 0 10 18 8 ∷ row 1 20 22 6 ∷ [])
+    ∷ planned-case (with-processors (K-record 500 ++ P-record 0 1 ++ Q-record 1 3 10) (S 0)) (planned 3 20 26 3)
+    (row 1 0 4 12 ∷ row 0 6 14 8 ∷ row 0 14 20 6 ∷ [])
     ∷ []
 
 pub in-corners : All-given corners
 unfolding
     given near-means best-past-budget equal-finishes two-tasks deadlines beside waits gap-of between-rows two-gaps ready-past-the-gap
     billed cheaper-of down four-windows past-two-bytes down-from cheaper-down alone chain all-markers marker-between marker-before two-markers marker-down
-    marker-in-row marker-after marker-for-two sample S corners
+    marker-in-row marker-after marker-for-two S-with down-early for-24 for-26 for-30 two-rows-lent sample S corners
 in-corners =
-    (refl, (refl, (refl, (refl, (refl, (refl, (refl, (refl, (refl, (refl, (refl, (refl, (refl, (refl, (refl, (refl, (refl, (refl, (refl, (refl, (refl, (refl, (refl, (refl, (refl, (refl, (refl, (refl, (refl, (refl, (refl, (refl, (refl, (refl, (refl, (refl, (refl, (refl, (refl, (refl, (refl, (refl, (refl, (refl, (refl, (refl, (refl, (refl, (refl, (refl, (refl, (refl, (refl, (refl, (refl, (refl, (refl, (refl, (refl, (refl, (refl, (refl, (refl, (refl, (refl, (refl, (refl, (refl, (refl, (refl, (refl, (refl, (refl, (refl, (refl, (refl, (refl, (refl, (refl, (refl, (refl, (refl, (refl, (refl, tt))))))))))))))))))))))))))))))))))))))))))))))))))))))))))))))))))))))))))))))))))))
+    (refl, (refl, (refl, (refl, (refl, (refl, (refl, (refl, (refl, (refl, (refl, (refl, (refl, (refl, (refl, (refl, (refl, (refl, (refl, (refl, (refl, (refl, (refl, (refl, (refl, (refl, (refl, (refl, (refl, (refl, (refl, (refl, (refl, (refl, (refl, (refl, (refl, (refl, (refl, (refl, (refl, (refl, (refl, (refl, (refl, (refl, (refl, (refl, (refl, (refl, (refl, (refl, (refl, (refl, (refl, (refl, (refl, (refl, (refl, (refl, (refl, (refl, (refl, (refl, (refl, (refl, (refl, (refl, (refl, (refl, (refl, (refl, (refl, (refl, (refl, (refl, (refl, (refl, (refl, (refl, (refl, (refl, (refl, (refl, (refl, (refl, (refl, (refl, (refl, (refl, (refl, (refl, (refl, (refl, (refl, (refl, (refl, (refl, (refl, (refl, (refl, (refl, (refl, (refl, (refl, (refl, (refl, (refl, (refl, (refl, tt))))))))))))))))))))))))))))))))))))))))))))))))))))))))))))))))))))))))))))))))))))))))))))))))))))))))))))))
+
+-- One task that costs the same on both processors, and takes half the minutes on the second.
+equal-costs : List ℕ
+equal-costs = H-record 1 2 0 ++ P-record 0 1 ++ P-record 1 2 ++ T-record 0 "one     " ++ W-record 0 0 10 ++ W-record 0 1 5 ++ bytes "Z"
+
+-- A marker on the dear processor only, where its data is there at minute 11 if task 0 is on the other.
+free-marker : List ℕ
+free-marker = H-record 2 2 50 ++ P-record 0 1 ++ P-record 1 3 ++ beside 0 "one     " 5 2 ++ beside 1 "marker  " 4 0 ++ E-record 0 1 6 ++ bytes "Z"
+
+-- The cheapest plan, asked for alone.
+pub cheapest-corners : List Case
+cheapest-corners =
+    for-24 (S 28) 0
+    ∷ for-24 (S 0) 0
+    ∷ for-24 (S 23) 0
+    ∷ for-24 (sample 1 1 28 "prep    " (D-record 5) []) 0
+    ∷ for-24 (S-with (K-record 667)) 0
+    ∷ for-24 (S-with (D-record 5 ++ K-record 1_000)) 0
+    ∷ for-24 (down-early []) 0
+    ∷ planned-case equal-costs (planned 1 5 10 0) (row 1 0 5 10 ∷ [])
+    ∷ planned-case equal-finishes (planned 1 10 10 0) (row 1 0 10 10 ∷ [])
+    ∷ planned-case (deadlines [] []) (planned 1 3 3 0) (row 0 0 3 3 ∷ [])
+    ∷ planned-case best-past-budget (planned 1 10 10 0) (row 1 0 10 10 ∷ [])
+    ∷ planned-case (cheaper-of (P-record 0 2 ++ Q-record 1 1 20)) (planned 1 10 20 0) (row 0 0 10 20 ∷ [])
+    ∷ planned-case (cheaper-of (P-record 0 1 ++ P-record 1 1 ++ M-record 0 0 5)) (planned 1 10 10 0) (row 1 0 10 10 ∷ [])
+    ∷ planned-case (cheaper-down (M-record 1 0 5)) (planned 1 15 10 0) (row 1 5 15 10 ∷ [])
+    ∷ planned-case (near-means 1) (planned 2 1 2 0) (row 1 0 1 1 ∷ row 0 0 1 1 ∷ [])
+    ∷ planned-case (gap-of 3) (planned 3 9 0 0) (row 0 0 2 0 ∷ row 1 5 9 0 ∷ row 1 0 5 0 ∷ [])
+    ∷ planned-case free-marker (planned 2 11 5 0) (row 0 0 5 5 ∷ row 1 11 11 0 ∷ [])
+    ∷ planned-case marker-before (planned 3 5 5 0) (row 0 5 5 0 ∷ row 0 5 5 0 ∷ row 0 0 5 5 ∷ [])
+    ∷ planned-case (billed 4 0 2 5) (planned 1 0 5 0) (row 0 0 0 5 ∷ [])
+    ∷ []
+
+pub in-cheapest-corners : All-given-by by-cheapest cheapest-corners
+unfolding
+    given-by near-means best-past-budget equal-finishes deadlines beside waits gap-of billed cheaper-of cheaper-down alone chain marker-before
+    S-with down-early for-24 equal-costs free-marker sample S cheapest-corners
+in-cheapest-corners =
+    (refl, (refl, (refl, (refl, (refl, (refl, (refl, (refl, (refl, (refl, (refl, (refl, (refl, (refl, (refl, (refl, (refl, (refl, (refl, tt)))))))))))))))))))
+
+-- The HEFT plan, asked for alone.
+pub HEFT-corners : List Case
+HEFT-corners =
+    for-30 (S 28) 0
+    ∷ for-30 (S 0) 0
+    ∷ for-30 (S 23) 0
+    ∷ for-30 (sample 1 1 28 "prep    " (D-record 5) []) 0
+    ∷ for-30 (S-with (K-record 667)) 0
+    ∷ for-30 (S-with (D-record 5 ++ K-record 0)) 0
+    ∷ planned-case (down-early []) (planned 3 14 26 0) (row 1 0 4 12 ∷ row 0 6 14 8 ∷ row 1 11 13 6 ∷ [])
+    ∷ planned-case equal-costs (planned 1 5 10 0) (row 1 0 5 10 ∷ [])
+    ∷ planned-case equal-finishes (planned 1 10 10 0) (row 1 0 10 10 ∷ [])
+    ∷ planned-case (deadlines [] []) (planned 1 3 3 0) (row 0 0 3 3 ∷ [])
+    ∷ planned-case best-past-budget (planned 1 5 100 0) (row 2 0 5 100 ∷ [])
+    ∷ planned-case (cheaper-of (P-record 0 2 ++ Q-record 1 1 20)) (planned 1 10 20 0) (row 0 0 10 20 ∷ [])
+    ∷ planned-case (cheaper-of (P-record 0 1 ++ P-record 1 1 ++ M-record 0 0 5)) (planned 1 10 10 0) (row 1 0 10 10 ∷ [])
+    ∷ planned-case (cheaper-down (M-record 1 0 5)) (planned 1 10 20 0) (row 0 0 10 20 ∷ [])
+    ∷ planned-case (near-means 1) (planned 2 1 2 0) (row 1 0 1 1 ∷ row 0 0 1 1 ∷ [])
+    ∷ planned-case (gap-of 3) (planned 3 9 0 0) (row 0 0 2 0 ∷ row 1 5 9 0 ∷ row 1 0 5 0 ∷ [])
+    ∷ planned-case free-marker (planned 2 2 6 0) (row 1 0 2 6 ∷ row 1 2 2 0 ∷ [])
+    ∷ planned-case marker-before (planned 3 5 5 0) (row 0 5 5 0 ∷ row 0 5 5 0 ∷ row 0 0 5 5 ∷ [])
+    ∷ planned-case (billed 4 0 2 5) (planned 1 0 5 0) (row 0 0 0 5 ∷ [])
+    ∷ []
+
+pub in-HEFT-corners : All-given-by by-HEFT HEFT-corners
+unfolding
+    given-by near-means best-past-budget equal-finishes deadlines beside waits gap-of billed cheaper-of cheaper-down alone chain marker-before
+    S-with down-early for-30 equal-costs free-marker sample S HEFT-corners
+in-HEFT-corners =
+    (refl, (refl, (refl, (refl, (refl, (refl, (refl, (refl, (refl, (refl, (refl, (refl, (refl, (refl, (refl, (refl, (refl, (refl, (refl, tt)))))))))))))))))))
+
+-- "Asked for alone, these two are held to no budget: refusals 1 to 8 only": what both get.
+pub refused-alone : List Case
+refused-alone =
+    refused-case [] 1 0
+    ∷ refused-case (take 83 (S 28)) 1 83
+    ∷ refused-case (bytes "P" ++ drop 1 (S 28)) 2 0
+    ∷ refused-case (two-tasks (E-record 0 1 5 ++ E-record 0 0 5)) 3 45
+    ∷ refused-case (S-with (K-record 1_001)) 4 7
+    ∷ refused-case (sample 1 1 1 "prep    " (K-record 667) []) 4 7
+    ∷ refused-case (S-with (K-record 667 ++ K-record 667)) 2 10
+    ∷ refused-case (sample 1 1 28 ";rep    " [] []) 5 13
+    ∷ refused-case (S 28 ++ bytes "Z") 6 84
+    ∷ two-rows-lent (S 28)
+    ∷ two-rows-lent (S 23)
+    ∷ refused-case (sample 1 1 28 "prep    " [] (E-record 1 0 0)) 8 0
+    ∷ refused-case (sample 1 1 0 "prep    " (K-record 667) (E-record 1 0 0)) 8 0
+    ∷ []
+
+pub both-refused : All-given-by by-cheapest refused-alone × All-given-by by-HEFT refused-alone
+unfolding given-by two-tasks S-with two-rows-lent sample S refused-alone
+both-refused = (
+  (refl, (refl, (refl, (refl, (refl, (refl, (refl, (refl, (refl, (refl, (refl, (refl, (refl, tt))))))))))))),
+  (refl, (refl, (refl, (refl, (refl, (refl, (refl, (refl, (refl, (refl, (refl, (refl, (refl, tt))))))))))))),
+)
+
+-- A task on three processors, with its minutes on each.
+on-three : ℕ → String → ℕ → ℕ → ℕ → List ℕ
+on-three task label first second third = T-record task label ++ W-record task 0 first ++ W-record task 1 second ++ W-record task 2 third
+
+-- The ten-task graph of document 004, at the prices of its table 3.
+pub ten-tasks : List ℕ
+ten-tasks =
+    H-record 10 3 0
+    ++ P-record 0 3
+    ++ P-record 1 5
+    ++ P-record 2 7
+    ++ on-three 0 "n1      " 14 16 9
+    ++ on-three 1 "n2      " 13 19 18
+    ++ on-three 2 "n3      " 11 13 19
+    ++ on-three 3 "n4      " 13 8 17
+    ++ on-three 4 "n5      " 12 13 10
+    ++ on-three 5 "n6      " 13 16 9
+    ++ on-three 6 "n7      " 7 15 11
+    ++ on-three 7 "n8      " 5 11 14
+    ++ on-three 8 "n9      " 18 12 20
+    ++ on-three 9 "n10     " 21 7 16
+    ++ E-record 0 1 18
+    ++ E-record 0 2 12
+    ++ E-record 0 3 9
+    ++ E-record 0 4 11
+    ++ E-record 0 5 14
+    ++ E-record 1 7 19
+    ++ E-record 1 8 16
+    ++ E-record 2 6 23
+    ++ E-record 3 7 27
+    ++ E-record 3 8 23
+    ++ E-record 4 8 13
+    ++ E-record 5 7 15
+    ++ E-record 6 9 17
+    ++ E-record 7 9 11
+    ++ E-record 8 9 13
+    ++ bytes "Z"
+
+-- Its table 4, the HEFT plan, row by row; the row past these keeps its content.
+pub table-4 : Case
+table-4 =
+    record {
+      input = ten-tasks;
+      lent = four-rows ++ four-rows ++ take 3 four-rows;
+      due =
+          record {
+            answer = planned 10 80 612 0;
+            rows =
+                row 2 0 9 63
+                ∷ row 0 27 40 39
+                ∷ row 2 9 28 133
+                ∷ row 1 18 26 40
+                ∷ row 2 28 38 70
+                ∷ row 1 26 42 80
+                ∷ row 2 38 49 77
+                ∷ row 0 57 62 15
+                ∷ row 1 56 68 60
+                ∷ row 1 73 80 35
+                ∷ row 93 7 8 9
+                ∷ [];
+          };
+    }
+
+pub published-table : given-by by-HEFT table-4 ≡ table-4 .due
+unfolding given-by on-three ten-tasks table-4
+published-table = refl
+
+-- "The range is the cheapest plan's cost, the HEFT plan's cost; or the refusal, 1 to 8, that both get."
+pub ranges :
+    (range (S 28) ≡ between 24 30)
+    × (range (S 23) ≡ between 24 30)
+    × (range (sample 1 1 28 "prep    " (D-record 5) []) ≡ between 24 30)
+    × (range (S-with (K-record 667)) ≡ between 24 30)
+    × (range (down-early []) ≡ between 24 26)
+    × (range ten-tasks ≡ between 353 612)
+    × (range (sample 1 1 28 "prep    " [] (E-record 1 0 0)) ≡ no-range 8 0)
+    × (range (S-with (K-record 1_001)) ≡ no-range 4 7)
+    × (range (take 83 (S 28)) ≡ no-range 1 83)
+unfolding given-by S-with down-early on-three ten-tasks sample S
+ranges = (refl, refl, refl, refl, refl, refl, refl, refl, refl)
+
+-- What the programs for the range and for the two methods write.
+pub printed-alone :
+    (range-text (S 28) ≡ bytes "range 24 30\n")
+    × (range-text (sample 1 1 28 "prep    " [] (E-record 1 0 0)) ≡ bytes "no 8 0\n")
+    × (text-asked by-cheapest (S 28) ≡ bytes "plan 3 18 24 0\nprep 0 0 10 10\nleft 0 10 18 8\nright 1 13 15 6\n")
+    × (text-asked by-HEFT (S 28) ≡ bytes "plan 3 10 30 0\nprep 1 0 4 12\nleft 1 4 8 12\nright 1 8 10 6\n")
+    × (text-asked by-HEFT (S-with (K-record 1_001)) ≡ bytes "no 4 7\n")
+unfolding given-by S-with sample S
+printed-alone = (refl, refl, refl, refl, refl)
 
 -- A least amount of 7 for 3 minutes at 2 is 42 for 9 minutes at 4: of the request so multiplied, and of the multiplied workflow.
 pub minimum-multiplied :
@@ -301,6 +539,17 @@ pub marker-multiplied :
     × (answer-multiplied 3 2 marker-before ≡ planned 3 15 30 270)
 unfolding given alone chain marker-before answer-multiplied
 marker-multiplied = (refl, refl)
+
+-- "A `K` stays what it is": at 0 and at 1,000 the budget that it sets is multiplied, of the request so multiplied, and of the multiplied workflow. At 333
+-- the floor of 1.998 is 1, and that of 11.988 is 11, which is not 6 times as much.
+pub share-multiplied :
+    (answer (sample 3 2 0 "prep    " (K-record 0) []) 64 ≡ planned 3 54 144 0)
+    × (answer-multiplied 3 2 (S-with (K-record 0)) ≡ planned 3 54 144 0)
+    × (answer (sample 3 2 0 "prep    " (K-record 1_000) []) 64 ≡ planned 3 30 180 0)
+    × (answer-multiplied 3 2 (S-with (K-record 1_000)) ≡ planned 3 30 180 0)
+    × (answer (sample 3 2 0 "prep    " (K-record 333) []) 64 ≡ planned 3 54 144 11)
+unfolding given S-with sample answer-multiplied
+share-multiplied = (refl, refl, refl, refl, refl)
 
 -- The kind that each processor was read in: a `Q` with minimum 0 is a `Q`.
 pub kinds-kept :
