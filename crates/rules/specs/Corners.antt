@@ -459,7 +459,7 @@ ten-tasks =
     ++ E-record 8 9 13
     ++ bytes "Z"
 
--- Its table 4, the HEFT plan, row by row; the row past these keeps its content.
+-- Its table 4, the HEFT plan, row by row, and the cost that it gives for it, 612. The row past these keeps its content.
 pub table-4 : Case
 table-4 =
     record {
