@@ -6,7 +6,8 @@ ghost use mathlib.Core.List.{[]};
 ghost use Rattle.rules.specs.Cycle.{cyclic};
 ghost use Rattle.rules.specs.Ranks.{cheapest-total};
 ghost use Rattle.rules.specs.Method.{by-HBCS};
-ghost use Rattle.rules.specs.Budget.{budget-between, budget-of};
+ghost use Rattle.rules.specs.Reading.{no-deadline};
+ghost use Rattle.rules.specs.Budget.{in-force, budget-between, budget-of};
 ghost use Rattle.rules.specs.Answer.{too-late, outcome-by, outcome-asked, answer-asked};
 ghost use Rattle.rules.specs.Range as rules;
 ghost use Rattle.rules.specs.Range.{range-of};
@@ -16,9 +17,10 @@ ghost use Rattle.reader.specs.Meaning.{ViewOf, meant-deadline, meant-share};
 ghost use Rattle.lookup.specs.Lookup.{workflow-of};
 ghost use Rattle.charges.specs.Charges.{ChargesOf};
 ghost use Rattle.successors.specs.Begins.{BeginsFrom};
-ghost use Rattle.placing.specs.Placed.{RanksOf, Columns};
+ghost use Rattle.placing.specs.Placed.{RanksOf, Columns, PlacedAs};
 ghost use Rattle.planner.specs.Planned.{meant-answer, meant-costs, PlanOf, planned-in, workflow-by, later-by, plan-alone, held-to-none, rows-told};
 use choosing::Method;
+use placing::Placing;
 use reader::Deadline;
 use reader::Reading;
 use reader::Share;
@@ -57,6 +59,64 @@ fn too_late(deadline: Deadline, length: u64) -> bool
     }
 }
 
+// Places all tasks by a method within a budget, beside the windows, which are read for it, and from minute 0 on.
+fn place_all<'a>(
+    s: &[u8],
+    v: View,
+    method: Method,
+    budget: u64,
+    prices: &'a [u64; 16],
+    minimums: &'a [u64; 16],
+    ranks: &[u64; 64],
+    edges_at: &[u16; 65],
+    cheapest: u64,
+    processors: &mut [u64; 64],
+    starts: &mut [u64; 64],
+    finishes: &mut [u64; 64],
+    costs: &mut [u64; 64],
+) -> Placing
+    requires { ⌜ ViewOf (now s) v ⌝ }
+    requires { ⌜ RanksOf (workflow-of (now s) v) (now ranks) × (cheapest ≡ cheapest-total (workflow-of (now s) v)) × ChargesOf (workflow-of (now s) v) (now prices) (now minimums) ⌝ }
+    requires { ⌜ (cyclic (workflow-of (now s) v) ≡ false) × BeginsFrom (workflow-of (now s) v) 0 (now «edges_at») × (budget ≤ budget-most) ⌝ }
+    requires { ⌜ Columns [] (now processors) (now starts) (now finishes) (now costs) ⌝ }
+    ensures { λ r. ⌜ PlacedAs (meant-method method) (in-force budget no-deadline (workflow-of (now (s .entry)) v)) (now (processors .exit)) (now (starts .exit)) (now (finishes .exit)) (now (costs .exit)) r ⌝ }
+{
+    let outset = downtime::busy_at_first(s, v);
+    let clock: u64 = 0;
+    placing::place(
+        s,
+        v,
+        method,
+        budget,
+        prices,
+        minimums,
+        ranks,
+        edges_at,
+        cheapest,
+        outset,
+        clock,
+        processors,
+        starts,
+        finishes,
+        costs,
+    )
+}
+
+// Takes all rows back.
+fn no_rows(
+    processors: &mut [u64; 64],
+    starts: &mut [u64; 64],
+    finishes: &mut [u64; 64],
+    costs: &mut [u64; 64],
+)
+    ensures { λ r. ⌜ Columns [] (now (processors .exit)) (now (starts .exit)) (now (finishes .exit)) (now (costs .exit)) ⌝ }
+{
+    *processors = [0u64; 64];
+    *starts = [0u64; 64];
+    *finishes = [0u64; 64];
+    *costs = [0u64; 64];
+}
+
 // "budget = cheapest + floor(k x (HEFT cost - cheapest) / 1000)"
 fn budget_between(k: u64, cheapest: u64, heft_cost: u64) -> u64
     requires { ⌜ (k ≤ 1_000) × (cheapest ≤ total-most) × («heft_cost» ≤ total-most) ⌝ }
@@ -89,8 +149,7 @@ fn budget_of<'a>(
     let Share::Of(k) = share else {
         return v.budget;
     };
-    let outset = downtime::busy_at_first(s, v);
-    let p = placing::place(
+    let heft = place_all(
         s,
         v,
         Method::Heft,
@@ -100,18 +159,13 @@ fn budget_of<'a>(
         ranks,
         edges_at,
         cheapest,
-        outset,
-        0,
         processors,
         starts,
         finishes,
         costs,
     );
-    *processors = [0u64; 64];
-    *starts = [0u64; 64];
-    *finishes = [0u64; 64];
-    *costs = [0u64; 64];
-    budget_between(k, cheapest, p.cost)
+    no_rows(processors, starts, finishes, costs);
+    budget_between(k, cheapest, heft.cost)
 }
 
 // HBCS: check 9, placing within the budget in force, and check 11, which takes the rows back.
@@ -134,7 +188,7 @@ fn plan_within<'a>(
     requires { ⌜ Columns [] (now processors) (now starts) (now finishes) (now costs) ⌝ }
     ensures { λ r. ⌜ PlanOf (later-by by-HBCS (workflow-by by-HBCS (now (s .entry)) v)) (planned-in (now (processors .exit)) (now (starts .exit)) (now (finishes .exit)) (now (costs .exit)) r) ⌝ }
 {
-    let budget = budget_of(
+    let in_force = budget_of(
         s,
         v,
         prices,
@@ -147,25 +201,22 @@ fn plan_within<'a>(
         finishes,
         costs,
     );
-    if budget < cheapest {
+    if in_force < cheapest {
         return Answer::Refused {
             number: 9,
             place: cheapest,
         };
     }
-    let outset = downtime::busy_at_first(s, v);
-    let p = placing::place(
+    let p = place_all(
         s,
         v,
         Method::Hbcs,
-        budget,
+        in_force,
         prices,
         minimums,
         ranks,
         edges_at,
         cheapest,
-        outset,
-        0,
         processors,
         starts,
         finishes,
@@ -173,10 +224,7 @@ fn plan_within<'a>(
     );
     let deadline = v.deadline;
     if too_late(deadline, p.length) {
-        *processors = [0u64; 64];
-        *starts = [0u64; 64];
-        *finishes = [0u64; 64];
-        *costs = [0u64; 64];
+        no_rows(processors, starts, finishes, costs);
         return Answer::Refused {
             number: 11,
             place: p.length,
@@ -211,8 +259,7 @@ fn plan_alone<'a>(
     requires { ⌜ Columns [] (now processors) (now starts) (now finishes) (now costs) ⌝ }
     ensures { λ r. ⌜ PlanOf (plan-alone (meant-method method) (workflow-of (now (s .entry)) v)) (planned-in (now (processors .exit)) (now (starts .exit)) (now (finishes .exit)) (now (costs .exit)) r) ⌝ }
 {
-    let outset = downtime::busy_at_first(s, v);
-    let p = placing::place(
+    let q = place_all(
         s,
         v,
         method,
@@ -222,8 +269,6 @@ fn plan_alone<'a>(
         ranks,
         edges_at,
         cheapest,
-        outset,
-        0,
         processors,
         starts,
         finishes,
@@ -231,8 +276,8 @@ fn plan_alone<'a>(
     );
     Answer::Planned {
         n: v.tasks as u64,
-        length: p.length,
-        cost: p.cost,
+        length: q.length,
+        cost: q.cost,
         left: 0,
     }
 }
@@ -423,18 +468,18 @@ pub fn rows_of(answer: Answer) -> u64
 fn answered(request: &[u8], method: Method) -> Answer
     ensures { λ r. ⌜ meant-answer r ≡ answer-asked (meant-method method) (now (request .entry)) 64 ⌝ }
 {
-    let mut processors = [0u64; 64];
-    let mut starts = [0u64; 64];
-    let mut finishes = [0u64; 64];
-    let mut costs = [0u64; 64];
+    let mut processor_of = [0u64; 64];
+    let mut start_of = [0u64; 64];
+    let mut finish_of = [0u64; 64];
+    let mut cost_of = [0u64; 64];
     plan_columns(
         request,
         method,
         64,
-        &mut processors,
-        &mut starts,
-        &mut finishes,
-        &mut costs,
+        &mut processor_of,
+        &mut start_of,
+        &mut finish_of,
+        &mut cost_of,
     )
 }
 
