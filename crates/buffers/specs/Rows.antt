@@ -1,12 +1,13 @@
--- The four buffers are the fields of document 01's rows: lent the fields of rows, the call leaves those of `rows-after`.
+-- The four buffers are the fields of document 01's rows: lent the fields of rows, the call leaves those of `rows-asked`.
 use Prim.Native.Nat.{ℕ}
 use mathlib.Core.Path.{_≡_, refl, ap, _∙_}
 use mathlib.Core.List.{List, map}
 use native.Mathlib.Omega.{arith}
 use lib.ListN.{length, length-map}
 use Rattle.rules.specs.Rows.{Row, row-of}
-use Rattle.rules.specs.Answer.{Outcome, plan, refusal, outcome, answer, written, rows-after}
-use Rattle.rules.specs.Buffers.{Buffers, rows-lent, column-after, buffers-written, buffers-after}
+use Rattle.rules.specs.Method.{Name}
+use Rattle.rules.specs.Answer.{Outcome, plan, refusal, outcome-asked, answer-asked, written, rows-asked}
+use Rattle.rules.specs.Buffers.{Buffers, rows-lent, column-after, buffers-written, buffers-asked}
 use Rattle.laws.specs.Overwritten.{overwritten-mapped}
 use Rattle.planner.specs.declared.Answer.{Answer}
 use Rattle.planner.specs.Planned.{meant-answer}
@@ -45,17 +46,18 @@ fields-written (plan W rows) lent =
 fields-written (refusal number place) lent = refl
 
 -- The answer is document 01's, and the buffers after the call hold the fields of its rows after the call.
-pub record RowsAfter (s : List ℕ) (lent : List Row) (after : Buffers) (r : Answer) : Type 0 where
-  pub answer-is : meant-answer r ≡ answer s (length lent)
-  pub fields-are : after ≡ fields (rows-after s lent)
+pub record RowsAfter (M : Name) (s : List ℕ) (lent : List Row) (after : Buffers) (r : Answer) : Type 0 where
+  pub answer-is : meant-answer r ≡ answer-asked M s (length lent)
+  pub fields-are : after ≡ fields (rows-asked M s lent)
 
-pub rows-are-written : (s : List ℕ) (lent : List Row) {after : Buffers} {r : Answer} → PlannedInto s (fields lent) after r → RowsAfter s lent after r
-unfolding rows-after buffers-after
-rows-are-written s lent into =
+pub rows-are-written : (M : Name) (s : List ℕ) (lent : List Row) {after : Buffers} {r : Answer}
+    → PlannedInto M s (fields lent) after r → RowsAfter M s lent after r
+unfolding rows-asked buffers-asked
+rows-are-written M s lent into =
     record {
-      answer-is = into .answer-is ∙ ap (answer s) (rows-lent-fields lent);
+      answer-is = into .answer-is ∙ ap (answer-asked M s) (rows-lent-fields lent);
       fields-are =
           into .after-is
-          ∙ ap (λ n. buffers-written (outcome s n) (fields lent)) (rows-lent-fields lent)
-          ∙ fields-written (outcome s (length lent)) lent;
+          ∙ ap (λ n. buffers-written (outcome-asked M s n) (fields lent)) (rows-lent-fields lent)
+          ∙ fields-written (outcome-asked M s (length lent)) lent;
     }

@@ -1,7 +1,8 @@
 -- The plan's columns are stored over the front of the buffers, as many numbers of each as the answer has rows.
 use Prim.Native.Nat.{_≤_, min}
-use Rattle.rules.specs.Answer.{Outcome, outcome, answer}
-use Rattle.rules.specs.Buffers.{Buffers, rows-lent, buffers-written, buffers-after}
+use Rattle.rules.specs.Answer.{Outcome, outcome-asked, answer-asked}
+use Rattle.rules.specs.Buffers.{Buffers, rows-lent, buffers-written, buffers-asked}
+use Rattle.choosing.specs.Named.{meant-method}
 use Rattle.placing.specs.Arrays.{columns-first}
 use Rattle.planner.specs.declared.Planning.{Planning}
 use Rattle.planner.specs.Planned.{PlanOf, planned-in}
@@ -20,13 +21,15 @@ lent c =
     four (a .processors .now) (a .starts .now) (a .finishes .now) (a .costs .now)
 
 abbrev outcome-due : tie.After-rows-of → Outcome
-outcome-due c = outcome (c .before .before .before .before .before .before .before .before .before .before .before .before .args .request .now) (rows-lent (lent c))
+outcome-due c =
+    let a = c .before .before .before .before .before .before .before .before .before .before .before .before .args in
+    outcome-asked (meant-method (a .method)) (a .request .now) (rows-lent (lent c))
 
 -- The answer and the four columns are that outcome's plan.
 abbrev plan-of : tie.After-rows-of → Planning
 plan-of c =
     let planned = c .before .plan-columns in
-    let columns = planned .last .1 .1 in
+    let columns = planned .last .1 .1 .1 in
     planned-in (columns .0) (columns .1 .0) (columns .1 .1 .0) (columns .1 .1 .1 .0) (planned .result)
 
 planned : (c : tie.After-rows-of) → PlanOf (outcome-due c) (plan-of c)
@@ -36,7 +39,7 @@ planned c = rw (c .before .before .before .before .before .before .shortest .ens
 -- Its rows are in the columns, and each buffer has room for them.
 in-reach : (c : tie.After-rows-of) →
     c .rows-of .result ≤ min (rows-lent (lent c)) 64
-in-reach c = rw (c .rows-of .ensures) (rows-in-reach _ _ (plan-of c .answer) (planned c .answer-is))
+in-reach c = rw (c .rows-of .ensures) (rows-in-reach _ _ _ (plan-of c .answer) (planned c .answer-is))
 
 shortest-requires : tie.Need-shortest-requires
 shortest-requires c κs = search needs
@@ -76,7 +79,7 @@ same-length-4 : tie.Need-same-length-4
 same-length-4 c = search needs
 
 returns : tie.Need-returns
-unfolding answer buffers-after buffers-written
+unfolding answer-asked buffers-asked buffers-written
 returns c =
     let store4 = c .before .before in
     let store3 = store4 .before .before .before .before .before in
