@@ -32,8 +32,8 @@ fn shortest(a: usize, b: usize, c: usize, d: usize) -> usize
     ) as usize
 }
 
-// The plan of a request by a method, its rows in four lent buffers: row i in the numbers at i. As many rows are lent as the shortest buffer has numbers. A plan writes
-// rows 0 to n-1 and keeps what stands after them; a refusal changes nothing.
+// The plan of a request by the method that is asked for, its rows in four lent buffers: row i in the numbers at i. As many rows are lent as the shortest
+// buffer has numbers. A plan writes rows 0 to n-1 and keeps what stands after them; a refusal changes nothing.
 pub fn plan_into(
     request: &[u8],
     method: Method,
