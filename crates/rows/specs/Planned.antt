@@ -4,7 +4,8 @@ use mathlib.Core.Path.{_≡_}
 use mathlib.Core.List.{List, map}
 use lib.ListN.{length, replicate}
 use Rattle.rules.specs.Rows as rules
-use Rattle.rules.specs.Answer.{answer, rows-after}
+use Rattle.rules.specs.Method.{Name}
+use Rattle.rules.specs.Answer.{answer-asked, rows-asked}
 use Rattle.laws.specs.Stores.{at}
 use Rattle.planner.specs.declared.Answer.{Answer}
 use Rattle.planner.specs.declared.Planning.{Planning}
@@ -20,11 +21,11 @@ meant-row r = record { processor = r .processor; start = r .start; finish = r .f
 abbrev pub row-at : Planning → ℕ → Row
 row-at p i = record { processor = at (p .processors) i; start = at (p .starts) i; finish = at (p .finishes) i; cost = at (p .costs) i }
 
--- The answer is the rules', and so are all rows after the call, the untouched ones too.
-pub record PlannedRows (s : List ℕ) (lent after : List Row) (r : Answer) : Type 0 where
-  pub answer-is : meant-answer r ≡ answer s (length lent)
-  pub rows-are : map meant-row after ≡ rows-after s (map meant-row lent)
+-- The answer is the rules' by the method that is asked for, and so are all rows after the call, the untouched ones too.
+pub record PlannedRows (M : Name) (s : List ℕ) (lent after : List Row) (r : Answer) : Type 0 where
+  pub answer-is : meant-answer r ≡ answer-asked M s (length lent)
+  pub rows-are : map meant-row after ≡ rows-asked M s (map meant-row lent)
 
 -- The same of 64 rows that hold `blank` before the call.
-abbrev pub PlannedWhole : List ℕ → Row → WholePlan → Type 0
-PlannedWhole s blank r = PlannedRows s (replicate 64 blank) (r .rows) (r .answer)
+abbrev pub PlannedWhole : Name → List ℕ → Row → WholePlan → Type 0
+PlannedWhole M s blank r = PlannedRows M s (replicate 64 blank) (r .rows) (r .answer)

@@ -4,6 +4,7 @@ use Prim.Native.Nat.{ℕ}
 use mathlib.Core.Path.{_≡_, refl, sym, ap, _∙_}
 use mathlib.Core.List.{List, [], _∷_, map}
 use lib.ListN.{replicate}
+use Rattle.rules.specs.Method.{Name}
 use Rattle.rules.specs.Rows as rules
 use Rattle.planner.specs.declared.Answer.{Answer}
 use Rattle.planner.specs.Settled.{answer-settled}
@@ -22,11 +23,12 @@ rows-again (row ∷ rows) = ap (λ rest. row ∷ rest) (rows-again rows)
 rows-settled : (a b : List Row) → map meant-row a ≡ map meant-row b → a ≡ b
 rows-settled a b same = sym (rows-again a) ∙ ap (map row-for) same ∙ rows-again b
 
-pub planned-rows-settled : (s : List ℕ) (lent a b : List Row) (r t : Answer) → PlannedRows s lent a r → PlannedRows s lent b t → (a ≡ b) × (r ≡ t)
-planned-rows-settled s lent a b r t one other =
+pub planned-rows-settled :
+    (M : Name) (s : List ℕ) (lent a b : List Row) (r t : Answer) → PlannedRows M s lent a r → PlannedRows M s lent b t → (a ≡ b) × (r ≡ t)
+planned-rows-settled M s lent a b r t one other =
     (rows-settled a b (one .rows-are ∙ sym (other .rows-are)), answer-settled r t (one .answer-is ∙ sym (other .answer-is)))
 
-pub planned-whole-settled : (s : List ℕ) (blank : Row) (a b : WholePlan) → PlannedWhole s blank a → PlannedWhole s blank b → a ≡ b
-planned-whole-settled s blank a b one other =
-    let both = planned-rows-settled s (replicate 64 blank) (a .rows) (b .rows) (a .answer) (b .answer) one other in
+pub planned-whole-settled : (M : Name) (s : List ℕ) (blank : Row) (a b : WholePlan) → PlannedWhole M s blank a → PlannedWhole M s blank b → a ≡ b
+planned-whole-settled M s blank a b one other =
+    let both = planned-rows-settled M s (replicate 64 blank) (a .rows) (b .rows) (a .answer) (b .answer) one other in
     λ t. record { answer = both .1 t; rows = both .0 t }

@@ -5,8 +5,9 @@ use mathlib.Core.List.{List, _++_, map}
 use native.Mathlib.Omega.{arith}
 use lib.ListN.{length, length-map, drop}
 use Rattle.rules.specs.Folds.{listing}
+use Rattle.rules.specs.Method.{Name}
 use Rattle.rules.specs.Rows as rules
-use Rattle.rules.specs.Answer.{Outcome, plan, refusal, outcome, answer, answer-of, written, rows-after}
+use Rattle.rules.specs.Answer.{Outcome, plan, refusal, outcome-asked, answer-of, answer-asked, written, rows-asked}
 use Rattle.laws.specs.Listing.{listing-same}
 use Rattle.laws.specs.Overwritten.{overwritten, overwritten-mapped}
 use Rattle.placing.specs.Placed.{Columns}
@@ -36,17 +37,17 @@ module _ (p : Planning) where
       (listing-same (W .tasks) (λ i. meant-row (row-at p i)) (rules.row-of rows) (λ i l. row-meant columns i))
   due-written (refusal number place) lent columns = refl
 
-module _ (s : List ℕ) {p : Planning} {n : ℕ} where
-  pub due-in-reach : (lent : ℕ) → PlanOf (outcome s lent) p → n ≡ rows-told (p .answer) → (n ≤ lent) × (n ≤ 64)
+module _ (M : Name) (s : List ℕ) {p : Planning} {n : ℕ} where
+  pub due-in-reach : (lent : ℕ) → PlanOf (outcome-asked M s lent) p → n ≡ rows-told (p .answer) → (n ≤ lent) × (n ≤ 64)
   due-in-reach lent planned due =
-      let reach = rows-in-reach s lent (p .answer) (planned .answer-is) in (omega (arith, reach, due), omega (arith, reach, due))
+      let reach = rows-in-reach M s lent (p .answer) (planned .answer-is) in (omega (arith, reach, due), omega (arith, reach, due))
 
   -- What the call leaves is the rules'.
-  pub rows-planned : {lent after : List Row} {r : Answer} → PlanOf (outcome s (length lent)) p → n ≡ rows-told (p .answer)
-      → after ≡ overwritten n (row-at p) lent → r ≡ p .answer → PlannedRows s lent after r
-  unfolding answer rows-after
+  pub rows-planned : {lent after : List Row} {r : Answer} → PlanOf (outcome-asked M s (length lent)) p → n ≡ rows-told (p .answer)
+      → after ≡ overwritten n (row-at p) lent → r ≡ p .answer → PlannedRows M s lent after r
+  unfolding answer-asked rows-asked
   rows-planned {lent} {after} planned due stored is =
-      let o = outcome s (length lent) in
+      let o = outcome-asked M s (length lent) in
       let all : n ≡ rows-due (answer-of o) = due ∙ told-due o (p .answer) (planned .answer-is) in
       record {
         answer-is = rw is (planned .answer-is);
@@ -54,5 +55,5 @@ module _ (s : List ℕ) {p : Planning} {n : ℕ} where
             ap (map meant-row) stored ∙ sym (overwritten-mapped n (row-at p) lent meant-row)
             ∙ ap (λ k. overwritten k (λ i. meant-row (row-at p i)) (map meant-row lent)) all
             ∙ due-written p o (map meant-row lent) (planned .columns)
-            ∙ ap (λ k. written (outcome s k) (map meant-row lent)) (sym (length-map lent meant-row));
+            ∙ ap (λ k. written (outcome-asked M s k) (map meant-row lent)) (sym (length-map lent meant-row));
       }

@@ -1,10 +1,12 @@
-// The plan of a request, its rows as structs: in a lent slice, or 64 of them by value.
+// The plan of a request by the method that is asked for, its rows as structs: in a lent slice, or 64 of them by value.
 ghost use mathlib.Core.Path.{_≡_};
 ghost use Prim.Native.Nat.{_<_, _≤_};
 ghost use lib.ListN.{length, replicate};
 ghost use Rattle.laws.specs.Overwritten.{overwritten};
+ghost use Rattle.choosing.specs.Named.{meant-method};
 ghost use Rattle.planner.specs.Planned.{rows-told};
 ghost use Rattle.rows.specs.Planned.{row-at, PlannedRows, PlannedWhole};
+use choosing::Method;
 use planner::Answer;
 use planner::Planning;
 
@@ -57,12 +59,13 @@ fn store(rows: &mut [Row], n: usize, p: Planning)
     }
 }
 
-// Plans a request, with as many rows lent as the slice has. A plan writes rows 0 to n-1 and keeps what stands after them; a refusal changes nothing.
-pub fn plan(request: &[u8], rows: &mut [Row]) -> Answer
-    ensures { λ r. ⌜ PlannedRows (now (request .entry)) (now (rows .entry)) (now (rows .exit)) r ⌝ }
+// Plans a request by the method that is asked for, with as many rows lent as the slice has. A plan writes rows 0 to n-1 and keeps what stands after them; a
+// refusal changes nothing.
+pub fn plan(request: &[u8], method: Method, rows: &mut [Row]) -> Answer
+    ensures { λ r. ⌜ PlannedRows (meant-method method) (now (request .entry)) (now (rows .entry)) (now (rows .exit)) r ⌝ }
 {
     let lent = rows.len();
-    let p = planner::plan(request, lent);
+    let p = planner::plan(request, method, lent);
     let n = rows_due(p);
     store(rows, n, p);
     answer_of(p)
@@ -88,11 +91,11 @@ fn whole(answer: Answer, rows: [Row; 64]) -> WholePlan
     WholePlan { answer, rows }
 }
 
-// Plans a request with 64 rows that hold `blank`: those that the plan does not write still hold it.
-pub fn plan_whole(request: &[u8], blank: Row) -> WholePlan
-    ensures { λ r. ⌜ PlannedWhole (now (request .entry)) blank r ⌝ }
+// Plans a request by the method that is asked for, with 64 rows that hold `blank`: those that the plan does not write still hold it.
+pub fn plan_whole(request: &[u8], method: Method, blank: Row) -> WholePlan
+    ensures { λ r. ⌜ PlannedWhole (meant-method method) (now (request .entry)) blank r ⌝ }
 {
     let mut rows = blank_rows(blank);
-    let answer = plan(request, &mut rows);
+    let answer = plan(request, method, &mut rows);
     whole(answer, rows)
 }

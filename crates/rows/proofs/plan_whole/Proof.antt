@@ -42,6 +42,10 @@ use denote.Triple.Spec.{Meets, tripleOf}
 use denote.Triple.Table.{entered, cited}
 use denote.Triple.Walked.{says, Stays, stay-dropped, walkOf, goes-dropped, Walks, ends-at, walked, walk-meets}
 use denote.Exit.{yes}
+use Rattle.choosing.specs.declared.Method.{Method}
+use Rattle.choosing.specs.Named.{meant-method}
+use Rattle.choosing.proofs.Method as method-type
+use Rattle.choosing.proofs.Method.Laws as method-laws
 use Rattle.planner.specs.declared.Answer.{Answer}
 use Rattle.planner.proofs.Answer as answer
 use Rattle.planner.proofs.Answer.Laws as answer-laws
@@ -74,7 +78,7 @@ use Rattle.rows.proofs.plan_whole.Code as code
 use Rattle.rows.proofs.plan_whole.Code.Mir as text
 
 abbrev stayed : Stays (this.ended .signature .params) (this.ended .kept)
-stayed = (stay-dropped (shrSliceOf (0 ∷ []) tt (plain (λ _. u8))) yes, (stay-dropped (plain (λ _. row-type.the-row)) yes, tt))
+stayed = (stay-dropped (shrSliceOf (0 ∷ []) tt (plain (λ _. u8))) yes, (stay-dropped (plain (λ _. method-type.the-row)) yes, (stay-dropped (plain (λ _. row-type.the-row)) yes, tt)))
 
 abbrev bytes : Ty
 bytes = sliceTy (tyRef (named 0) imm (tyInt w8))
@@ -99,13 +103,13 @@ module _ {M : Type 1} (𝓤 : URA M) (H : Heap 𝓤) (A : Atoms 𝓤) (W : Given
 
 abbrev locals : List Local
 locals =
-    local whole-laws.mir valueLocal ∷ local bytes valueLocal ∷ local row-laws.mir valueLocal ∷ local array memorySlot ∷ local answer-laws.mir valueLocal
+    local whole-laws.mir valueLocal ∷ local bytes valueLocal ∷ local method-laws.mir valueLocal ∷ local row-laws.mir valueLocal ∷ local array memorySlot ∷ local answer-laws.mir valueLocal
     ∷ local array valueLocal ∷ local (tyRef erased mut (tyArray (pointee (row-type.the-row .written)) 64)) valueLocal
     ∷ local (sliceTy (tyRef erased mut (pointee (row-type.the-row .written)))) valueLocal ∷ []
 
 -- The code with its locals' types written out, without which the check runs out of steps.
 abbrev function : Fn
-function = record { lifetimes = 1; outlives = []; params = 2; locals = locals; body = text.t-1 }
+function = record { lifetimes = 1; outlives = []; params = 3; locals = locals; body = text.t-1 }
 
 function-is : code.function ≡ function
 function-is = refl
@@ -127,21 +131,24 @@ module _ {M : Type 1} (𝓤 : URA M) (H : Heap 𝓤) (A : Atoms 𝓤) (memory : 
     pub whole-met : Triple 𝓤 (C #whole) Whole
 
 module _ {M : Type 1} (𝓤 : URA M) (H : Heap 𝓤) (A : Atoms 𝓤) (W : Given 𝓤 H A) (memory : Memory → SProp 𝓤) (run : Routine → Fun 𝓤)
-    (κ : Lft) (q : Share) (c : RefT (List ℕ)) (blank : Row) where
+    (κ : Lft) (q : Share) (c : RefT (List ℕ)) (asked : Method) (blank : Row) where
   abbrev ys : List Row
   ys = replicate 64 blank
 
   abbrev cv : Val
   cv = sliceVal (c .ptr) (length (c .now))
 
+  abbrev av : Val
+  av = enum.val method-type.the-type method-laws.the-laws asked
+
   abbrev bv : Val
   bv = struct.val row-type.the-type row-laws.the-laws blank
 
-  abbrev a : RefT (List ℕ) × (Row × Unit {0})
-  a = (c, (blank, tt))
+  abbrev a : RefT (List ℕ) × (Method × (Row × Unit {0}))
+  a = (c, (asked, (blank, tt)))
 
-  abbrev vals : List Val × (List Val × Unit {0})
-  vals = (cv ∷ [], (bv ∷ [], tt))
+  abbrev vals : List Val × (List Val × (List Val × Unit {0}))
+  vals = (cv ∷ [], (av ∷ [], (bv ∷ [], tt)))
 
   abbrev bound : walkOf 𝓤 H A this.ended stayed (this.clauses 𝓤 H A memory run) .Ghost
   bound = (((κ, tt), (q, tt), tt, a, vals), tt)
@@ -152,11 +159,11 @@ module _ {M : Type 1} (𝓤 : URA M) (H : Heap 𝓤) (A : Atoms 𝓤) (W : Given
   abbrev Request : Fml
   Request = ShrSlice (named 0) κ u8 .own c (cv ∷ [])
 
-  exits : (r : WholePlan) (u : Val) → PlannedWhole (now c) blank r → ent 𝓤 (⋆ 𝓤 H A (‵ (flft κ q) ∷ ‵ (whole-type.the-row .own r (u ∷ [])) ∷ [])) (Post u)
+  exits : (r : WholePlan) (u : Val) → PlannedWhole (meant-method asked) (now c) blank r → ent 𝓤 (⋆ 𝓤 H A (‵ (flft κ q) ∷ ‵ (whole-type.the-row .own r (u ∷ [])) ∷ [])) (Post u)
   exits r u planned =
       qed W (‵ (flft κ q) ∷ ‵ (whole-type.the-row .own r (u ∷ [])) ∷ []) ∵
-      suffices ! _ (ends-at 𝓤 H A this.ended stayed (this.clauses 𝓤 H A memory run) W bound u r (tt, (tt, tt)) (tt, (tt, tt))) $
-      says ! planned $ nothing ! $ move ! (1 ∷ 0 ∷ []) $ join ! $ frame ! $ nothing ! $ nothing ! $ fjoin ! $ nothing ! $ fjoin ! $ frame ! $ done !
+      suffices ! _ (ends-at 𝓤 H A this.ended stayed (this.clauses 𝓤 H A memory run) W bound u r (tt, (tt, (tt, tt))) (tt, (tt, (tt, tt)))) $
+      says ! planned $ nothing ! $ move ! (1 ∷ 0 ∷ []) $ join ! $ frame ! $ nothing ! $ nothing ! $ fjoin ! $ nothing ! $ fjoin ! $ nothing ! $ fjoin ! $ frame ! $ done !
 
   -- What each function is passed, and asks.
   module _ (is-b : Is row-type.the-row blank (bv ∷ [])) where
@@ -191,33 +198,35 @@ module _ {M : Type 1} (𝓤 : URA M) (H : Heap 𝓤) (A : Atoms 𝓤) (W : Given
     Rows = MutSlice (named 1) (α ∷ []) row-type.the-row .own x (xv ∷ [])
 
     abbrev to-plan : Plan 𝓤 H A memory run .Ghost
-    to-plan = (((κ, (α ∷ [], tt)), (q, (fullShare, tt)), tt, (c, (x, tt)), (cv ∷ [], (xv ∷ [], tt))), tt)
+    to-plan = (((κ, (α ∷ [], tt)), (q, (fullShare, tt)), tt, (c, (asked, (x, tt))), (cv ∷ [], (av ∷ [], (xv ∷ [], tt)))), tt)
 
-    asks-plan : ent 𝓤 (⋆ 𝓤 H A ((‵ (flft κ q) ⊛ ‵ (flft (α ∷ []) fullShare)) ∷ ‵ Request ∷ ‵ Rows ∷ [])) (Plan 𝓤 H A memory run .pre to-plan)
-    asks-plan =
+    asks-plan : Is method-type.the-row asked (av ∷ [])
+        → ent 𝓤 (⋆ 𝓤 H A ((‵ (flft κ q) ⊛ ‵ (flft (α ∷ []) fullShare)) ∷ ‵ Request ∷ ‵ Rows ∷ [])) (Plan 𝓤 H A memory run .pre to-plan)
+    asks-plan is-asked =
         qed W ((‵ (flft κ q) ⊛ ‵ (flft (α ∷ []) fullShare)) ∷ ‵ Request ∷ ‵ Rows ∷ []) ∵
-        nothing ! $ move ! (3 ∷ 0 ∷ []) $ fjoin ! $ move ! (2 ∷ 0 ∷ []) $ fjoin ! $
+        nothing ! $ move ! (3 ∷ 0 ∷ []) $ fjoin ! $
+        owned ! method-type.the-row (Is method-type.the-row) (enum.makes method-type.the-type method-laws.the-plain 𝓤 H A) asked _ is-asked $ fjoin ! $ move ! (2 ∷ 0 ∷ []) $ fjoin ! $
         move ! (1 ∷ []) $ split ! $ nothing ! $ move ! (2 ∷ 0 ∷ []) $ join ! $ move ! (1 ∷ 0 ∷ []) $ join ! $ join ! $ nothing ! $ move ! (1 ∷ 0 ∷ []) $ done !
 
   module _ (C : Calls 𝓤 H) (Λ : Loops 𝓤 H) (fm : FmC 𝓤 H (W .laws) C) (met : Met 𝓤 H A memory run C)
-      (c-fits : length (c .now) < 2 ^ 64) (is-b : Is row-type.the-row blank (bv ∷ [])) where
+      (c-fits : length (c .now) < 2 ^ 64) (is-asked : Is method-type.the-row asked (av ∷ [])) (is-b : Is row-type.the-row blank (bv ∷ [])) where
     module _ (l : ℕ → ℕ) where
       abbrev En : Env 𝓤 H
       En = env 𝓤 H locals l
 
       abbrev b : ℕ
-      b = l 3
+      b = l 4
 
-      body : Sq W (held 𝓤 H En (empty ∷ holds cv ∷ holds bv ∷ []) (‵ (flft κ q) ∷ ‵ Request ∷ [])) (runs C Λ En text.t-1 (atRet En Post))
+      body : Sq W (held 𝓤 H En (empty ∷ holds cv ∷ holds av ∷ holds bv ∷ []) (‵ (flft κ q) ∷ ‵ Request ∷ [])) (runs C Λ En text.t-1 (atRet En Post))
       body =
           use0 W (raw (Blank 𝓤 H A memory run .pre (to-blank is-b))) (asks-blank is-b) $
           calls-met ! blank-rows.ended (blank-rows.clauses 𝓤 H A memory run) fm (met .blank-met) (to-blank is-b) (λ zs ws. zs ≡ ys) (λ zs ws. refl)
-          (and-then ! (of-local ! 15 refl) (no-more !))
+          (and-then ! (of-local ! 17 refl) (no-more !))
           (λ v zs ws blanks is-zs. let is-ys : Is rows ys (v ∷ []) = subst (λ (zs : List Row). Is rows zs (v ∷ [])) blanks is-zs in
           drop ! $ drop ! $ drop ! $
-          sets-returned ! 14 refl (rows-typed 𝓤 H A W ys v is-ys) $ sets ! 14 (of-opd ! (of-local ! 14 refl)) refl (rows-typed 𝓤 H A W ys v is-ys) $
-          sets ! 14 (addr ! (from ! (stop !))) refl (tt, tt) $
-          sets ! 14 (agg ! (and-then ! (of-local ! 14 refl) (and-then ! (lit ! tt) (no-more !)))) refl (tt, (tt, (record { fits = lit< tt }, tt))) $
+          sets-returned ! 16 refl (rows-typed 𝓤 H A W ys v is-ys) $ sets ! 16 (of-opd ! (of-local ! 16 refl)) refl (rows-typed 𝓤 H A W ys v is-ys) $
+          sets ! 16 (addr ! (from ! (stop !))) refl (tt, tt) $
+          sets ! 16 (agg ! (and-then ! (of-local ! 16 refl) (and-then ! (lit ! tt) (no-more !)))) refl (tt, (tt, (record { fits = lit< tt }, tt))) $
           -- the array is lent
           move ! (8 ∷ []) $ owned ! rows (Is rows) (rows-make 𝓤 H A W) ys _ is-ys $ move ! (1 ∷ 0 ∷ []) $
           use2 W (‵ (cells (mem row-type.the-row) ys b 0)) (elements-of 𝓤 H A W row-type.the-row tt 64 b ys v) $
@@ -225,45 +234,47 @@ module _ {M : Type 1} (𝓤 : URA M) (H : Heap 𝓤) (A : Atoms 𝓤) (W : Given
           use1 W (later (some (λ (γ : GName). ‵ (Rows b α γ) ⊛ ‵ (flent (α ∷ []) (Held row-type.the-row 64 b 0 γ)))))
           (lends-slice 𝓤 H A W row-type.the-row (named 1) (α ∷ []) ys b 0 room) $ await ! tt $ pick ! (λ γ. split ! $
           -- the rows; what gives them back; their token; the locals, without the array; the request's token; the request
-          move ! (18 ∷ 2 ∷ []) $ join ! $ move ! (0 ∷ 18 ∷ 1 ∷ []) $
-          use3 W (raw (Plan 𝓤 H A memory run .pre (to-plan b α γ))) (asks-plan b α γ) $
-          calls-met ! plan.ended (plan.clauses 𝓤 H A memory run) fm (met .plan-met) (to-plan b α γ) (λ r ws. PlannedRows (now c) ys (ws .1 .0) r) (λ r ws. refl)
-          (and-then ! (of-local ! 15 refl) (and-then ! (of-local ! 16 refl) (no-more !)))
-          (λ u r ws planned is-r. let zs : List Row = ws .1 .0 in
-          drop ! $ fsplit ! $ drop ! $ fsplit ! $ fsplit ! $ move ! (1 ∷ 2 ∷ []) $ drop ! $ drop ! $ move ! (1 ∷ []) $
+          move ! (20 ∷ 2 ∷ []) $ join ! $ move ! (0 ∷ 20 ∷ 1 ∷ []) $
+          use3 W (raw (Plan 𝓤 H A memory run .pre (to-plan b α γ))) (asks-plan b α γ is-asked) $
+          calls-met ! plan.ended (plan.clauses 𝓤 H A memory run) fm (met .plan-met) (to-plan b α γ)
+          (λ r ws. PlannedRows (meant-method asked) (now c) ys (ws .1 .1 .0) r) (λ r ws. refl)
+          (and-then ! (of-local ! 17 refl) (and-then ! (of-local ! 17 refl) (and-then ! (of-local ! 18 refl) (no-more !))))
+          (λ u r ws planned is-r. let zs : List Row = ws .1 .1 .0 in
+          drop ! $ fsplit ! $ drop ! $ fsplit ! $ drop ! $ fsplit ! $ fsplit ! $ move ! (1 ∷ 2 ∷ []) $ drop ! $ drop ! $ move ! (1 ∷ []) $
           use1 W (‵ (flft κ q) ⊛ (‵ (flft (α ∷ []) fullShare) ⊛ ‵ ftrue)) (id⊢ 𝓤 _) $ split ! $ move ! (1 ∷ []) $ split ! $ move ! (1 ∷ []) $ drop ! $
           -- the rows' token; the request's token; what says the last rows; what gives them back; the locals, without the array
-          sets-returned ! 18 refl (enum.lawful answer.the-type answer-laws.the-laws 𝓤 H A W tt .typed r _ is-r .0) $
+          sets-returned ! 20 refl (enum.lawful answer.the-type answer-laws.the-laws 𝓤 H A W tt .typed r _ is-r .0) $
           -- the array comes back
           lft-end ! tt $ move ! (0 ∷ 3 ∷ 2 ∷ []) $
           use3 W (later (‵ (Arr (mem row-type.the-row) 64 .lies zs b 0))) (slice-back 𝓤 H A W row-type.the-row (α ∷ []) γ zs 64 b 0) $ await ! tt $
           use1 W (some (λ (w : Val). ‵ (fat fullShare array b 0 w) ⊛ ‵ (rows .own zs (w ∷ [])))) (array-again 𝓤 H A W row-type.the-row tt 64 b zs) $
           pick ! (λ w. split ! $ move ! (1 ∷ []) $ facts ! rows (Is rows) (shows 𝓤 H A rows) zs (w ∷ []) (λ is-zs.
           move ! (1 ∷ []) $ behind ! 1 $ move ! (1 ∷ 2 ∷ 3 ∷ 4 ∷ 5 ∷ 6 ∷ 7 ∷ 8 ∷ []) $
-          assigns ! (of-opd ! (of-local ! 14 refl)) (from ! (stop !)) (store ! 4 refl (rows-typed 𝓤 H A W zs w is-zs)) $
+          assigns ! (of-opd ! (of-local ! 16 refl)) (from ! (stop !)) (store ! 4 refl (rows-typed 𝓤 H A W zs w is-zs)) $
           use0 W (raw (Whole 𝓤 H A memory run .pre (to-whole r u is-r zs w is-zs))) (asks-whole r u is-r zs w is-zs) $
           calls-met ! whole-of.ended (whole-of.clauses 𝓤 H A memory run) fm (met .whole-met) (to-whole r u is-r zs w is-zs)
           (λ p ws. p ≡ record { answer = r; rows = zs }) (λ p ws. refl)
-          (and-then ! (of-local ! 15 refl) (and-then ! (of-local ! 15 refl) (no-more !)))
+          (and-then ! (of-local ! 17 refl) (and-then ! (of-local ! 17 refl) (no-more !)))
           (λ v p ws both is-p. move ! (1 ∷ 2 ∷ []) $ drop ! $ drop ! $
           -- what the plan owns; the locals; the request's token
-          sets-returned ! 15 refl (struct.lawful whole-type.the-type whole-laws.the-laws 𝓤 H A W .typed p _ is-p .0) $
-          returns ! (look ! 15 refl) $ behind ! 1 $
-          frees-all ! (holds _ ∷ holds _ ∷ holds _ ∷ holds _ ∷ holds _ ∷ holds _ ∷ holds _ ∷ holds _ ∷ []) $
-          by ! (exits p v (subst (PlannedWhole (now c) blank) (sym both) planned)))))))))
+          sets-returned ! 17 refl (struct.lawful whole-type.the-type whole-laws.the-laws 𝓤 H A W .typed p _ is-p .0) $
+          returns ! (look ! 17 refl) $ behind ! 1 $
+          frees-all ! (holds _ ∷ holds _ ∷ holds _ ∷ holds _ ∷ holds _ ∷ holds _ ∷ holds _ ∷ holds _ ∷ holds _ ∷ []) $
+          by ! (exits p v (subst (PlannedWhole (meant-method asked) (now c) blank) (sym both) planned)))))))))
 
     -- The parameters are passed, and the body runs.
-    walk-function : ent 𝓤 (onEntry 𝓤 H A this.signature (κ, tt) (q, tt) a vals) (WpFn 𝓤 H C Λ function (cv ∷ bv ∷ []) Post)
+    walk-function : ent 𝓤 (onEntry 𝓤 H A this.signature (κ, tt) (q, tt) a vals) (WpFn 𝓤 H C Λ function (cv ∷ av ∷ bv ∷ []) Post)
     walk-function =
-        qed W ((‵ (flft κ q) ⊛ ‵ ftrue) ∷ ‵ (owns (ShrSlice (named 0) κ u8 ∷ row-type.the-row ∷ []) a vals) ∷ []) ∵
+        qed W ((‵ (flft κ q) ⊛ ‵ ftrue) ∷ ‵ (owns (ShrSlice (named 0) κ u8 ∷ method-type.the-row ∷ row-type.the-row ∷ []) a vals) ∷ []) ∵
         split ! $ move ! (1 ∷ []) $ drop ! $ move ! (1 ∷ []) $ fsplit ! $ move ! (1 ∷ []) $ drop ! $ move ! (1 ∷ []) $
-        enter ! C Λ function (cv ∷ bv ∷ []) _ $
-        allocs-all ! locals (λ l. params1 ! $ pass1 ! (init ! 12 refl (tt, (tt, (record { fits = c-fits }, tt)))) $
+        enter ! C Λ function (cv ∷ av ∷ bv ∷ []) _ $
+        allocs-all ! locals (λ l. params1 ! $ pass1 ! (init ! 14 refl (tt, (tt, (record { fits = c-fits }, tt)))) $
+        pass1 ! (init ! 12 refl (enum.lawful method-type.the-type method-laws.the-laws 𝓤 H A W tt .typed asked _ is-asked .0)) $
         pass1 ! (init ! 10 refl (struct.lawful row-type.the-type row-laws.the-laws 𝓤 H A W .typed blank _ is-b .0)) $ pass0 ! $ body l)
 
-    walk : ent 𝓤 (onEntry 𝓤 H A this.signature (κ, tt) (q, tt) a vals) (WpFn 𝓤 H C Λ code.function (cv ∷ bv ∷ []) Post)
+    walk : ent 𝓤 (onEntry 𝓤 H A this.signature (κ, tt) (q, tt) a vals) (WpFn 𝓤 H C Λ code.function (cv ∷ av ∷ bv ∷ []) Post)
     walk =
-        subst (λ (f : Fn). ent 𝓤 (onEntry 𝓤 H A this.signature (κ, tt) (q, tt) a vals) (WpFn 𝓤 H C Λ f (cv ∷ bv ∷ []) Post))
+        subst (λ (f : Fn). ent 𝓤 (onEntry 𝓤 H A this.signature (κ, tt) (q, tt) a vals) (WpFn 𝓤 H C Λ f (cv ∷ av ∷ bv ∷ []) Post))
         (sym function-is) walk-function
 
 module _ {M : Type 1} (𝓤 : URA M) (H : Heap 𝓤) (A : Atoms 𝓤) (W : Given 𝓤 H A) (memory : Memory → SProp 𝓤) (run : Routine → Fun 𝓤) (𝓣 : Tables 𝓤 H)
@@ -271,17 +282,23 @@ module _ {M : Type 1} (𝓤 : URA M) (H : Heap 𝓤) (A : Atoms 𝓤) (W : Given
   walks : Walks 𝓤 H A this.ended stayed (WpFn 𝓤 H (𝓣 .C) (𝓣 .Λ) code.function) (this.clauses 𝓤 H A memory run)
   walks =
       walked 𝓤 H A this.ended stayed (this.clauses 𝓤 H A memory run) (WpFn 𝓤 H (𝓣 .C) (𝓣 .Λ) code.function)
-      (λ κs. (slice-vals, (struct.vals row-type.the-type row-laws.the-laws, tt)))
-      (λ κs. (shr-slice-tells (named 0) (κs .0) u8, (struct.tells row-type.the-type row-laws.the-laws, tt)))
+      (λ κs. (slice-vals, (enum.vals method-type.the-type method-laws.the-laws, (struct.vals row-type.the-type row-laws.the-laws, tt))))
+      (λ κs. (
+        shr-slice-tells (named 0) (κs .0) u8,
+        (enum.tells method-type.the-type method-laws.the-laws, (struct.tells row-type.the-type row-laws.the-laws, tt)),
+      ))
       (λ κs qs bounds a g are.
       via 𝓤 _ (fst∗ 𝓤 _ (emp 𝓤))
-      (walk 𝓤 H A W memory run (κs .0) (qs .0) (a .0) (a .1 .0) (𝓣 .C) (𝓣 .Λ) (fmOf 𝓤 H (W .laws) 𝓣) met (are .0 .0 .1 .0) (are .1 .0)))
+      (walk 𝓤 H A W memory run (κs .0) (qs .0) (a .0) (a .1 .0) (a .1 .1 .0) (𝓣 .C) (𝓣 .Λ) (fmOf 𝓤 H (W .laws) 𝓣) met (are .0 .0 .1 .0) (are .1 .0) (are .1 .1 .0)))
 
   meets : Meets 𝓤 H A this.signature (WpFn 𝓤 H (𝓣 .C) (𝓣 .Λ) code.function) (this.spec 𝓤 H A memory run)
   meets =
       walk-meets 𝓤 H A this.ended stayed W (
         goes-dropped 𝓤 H A W 1 (shrSliceOf (0 ∷ []) tt (plain (λ _. u8))) yes (λ κs x f. refl),
-        (goes-dropped 𝓤 H A W 1 (plain (λ _. row-type.the-row)) yes (λ κs x f. refl), tt),
+        (
+          goes-dropped 𝓤 H A W 1 (plain (λ _. method-type.the-row)) yes (λ κs x f. refl),
+          (goes-dropped 𝓤 H A W 1 (plain (λ _. row-type.the-row)) yes (λ κs x f. refl), tt),
+        ),
       )
       (this.clauses 𝓤 H A memory run) (WpFn 𝓤 H (𝓣 .C) (𝓣 .Λ) code.function) (WpFn-mono 𝓤 H (W .laws) 𝓣 code.function) walks
 
