@@ -45,7 +45,7 @@ fields-written (plan W rows) lent =
     }
 fields-written (refusal number place) lent = refl
 
--- The answer is document 01's, and the buffers after the call hold the fields of its rows after the call.
+-- The answer is the rules' by the method that is asked for, and the buffers after the call hold the fields of the rules' rows after the call.
 pub record RowsAfter (M : Name) (s : List ℕ) (lent : List Row) (after : Buffers) (r : Answer) : Type 0 where
   pub answer-is : meant-answer r ≡ answer-asked M s (length lent)
   pub fields-are : after ≡ fields (rows-asked M s lent)
