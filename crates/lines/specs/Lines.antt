@@ -1,14 +1,13 @@
--- The lines of the text: a refusal's by its fields, a task's by four columns, and one line for each of the first numbers.
+-- The lines of the text: one of two numbers by its fields, a task's by four columns, and one line for each of the first numbers.
 use Prim.Native.Nat.{ℕ, zero, suc, _≤_, _<_}
 use mathlib.Core.Path.{_≡_}
-use mathlib.Core.List.{List, _++_, append-assoc}
+use mathlib.Core.List.{List, [], _∷_, _++_, append-assoc}
 use mathlib.Core.Logic.{⊎-elim}
 use native.Mathlib.Nat.{eq-or-lt-of-le}
 use native.Mathlib.Omega.{arith}
 use lib.ListN.{length, length-append}
 use Rattle.rules.specs.Labels.{label}
-use Rattle.rules.specs.Text.{bytes, line, first-line, row-line, lines}
-use Rattle.rules.specs.Answer.{refused}
+use Rattle.rules.specs.Text.{bytes, decimal, line, row-line, lines}
 use Rattle.laws.specs.Stores.{at}
 use Rattle.decimals.specs.Fields.{field}
 use Rattle.decimals.specs.Wrote.{Room, Wrote, room-next}
@@ -27,9 +26,13 @@ abbrev pub fields-line : List ℕ → (processor start finish cost : ℕ) → Li
 fields-line label processor start finish cost =
     row-line label (record { processor = processor; start = start; finish = finish; cost = cost })
 
-pub refusal-line : (number place : ℕ) → first-line (refused number place) ≡ bytes "no " ++ (field number 32 ++ field place 10)
-unfolding first-line line bytes
-refusal-line number place = simp append-assoc
+-- What opens a line, and two numbers to its end: a refusal's, and the range.
+abbrev pub two-line : List ℕ → (a b : ℕ) → List ℕ
+two-line opening a b = opening ++ line (decimal a) (decimal b ∷ [])
+
+pub two-fields : (opening : List ℕ) (a b : ℕ) → two-line opening a b ≡ opening ++ (field a 32 ++ field b 10)
+unfolding line bytes
+two-fields opening a b = simp append-assoc
 
 -- One line per number: the first i of them are no longer than the first n.
 module _ (line-of : ℕ → List ℕ) where

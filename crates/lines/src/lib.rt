@@ -1,12 +1,24 @@
-// The lines of the printed plan, written over a lent buffer: the first line, and those of the rows.
+// The lines of the printed plan, written over a lent buffer: the first line, and those of the rows; and the line of the range.
 ghost use Prim.Native.Nat.{_≤_};
 ghost use Rattle.rules.specs.Text.{first-line};
+ghost use Rattle.rules.specs.Range.{range-line};
 ghost use Rattle.reader.specs.Meaning.{ViewOf};
-ghost use Rattle.planner.specs.Planned.{meant-answer};
+ghost use Rattle.planner.specs.Planned.{meant-answer, meant-costs};
 ghost use Rattle.decimals.specs.Wrote.{Room, Wrote};
-ghost use Rattle.lines.specs.Lines.{column-lines, fields-line};
+ghost use Rattle.lines.specs.Lines.{two-line, column-lines, fields-line};
 use planner::Answer;
+use planner::Costs;
 use reader::View;
+
+// What opens a line, and two numbers to its end.
+fn put_two(out: &mut [u8], opening: &[u8], a: u64, b: u64) -> usize
+    requires { ⌜ Room (now out) 0 (two-line (now opening) a b) ⌝ }
+    ensures { λ r. ⌜ Wrote (now (out .entry)) 0 (two-line (now (opening .entry)) a b) (now (out .exit)) r ⌝ }
+{
+    let opened = decimals::put_bytes(out, 0, opening);
+    let parted = decimals::put_field(out, opened, a, b' ');
+    decimals::put_field(out, parted, b, b'\n')
+}
 
 // "`plan `, n, length, cost, budget left, [..]; or `no `, number, place"
 pub fn put_first_line(out: &mut [u8], answer: Answer) -> usize
@@ -23,10 +35,19 @@ pub fn put_first_line(out: &mut [u8], answer: Answer) -> usize
             let opened = decimals::put_bytes(out, 0, b"plan ");
             decimals::put_four(out, opened, n, length, cost, left)
         }
-        Answer::Refused { number, place } => {
-            let opened = decimals::put_bytes(out, 0, b"no ");
-            let numbered = decimals::put_field(out, opened, number, b' ');
-            decimals::put_field(out, numbered, place, b'\n')
+        Answer::Refused { number, place } => put_two(out, b"no ", number, place),
+    }
+}
+
+// "`range `, the cheapest plan's cost, the HEFT plan's cost; or `no `, number, place"
+pub fn put_range_line(out: &mut [u8], costs: Costs) -> usize
+    requires { ⌜ Room (now out) 0 (range-line (meant-costs costs)) ⌝ }
+    ensures { λ r. ⌜ Wrote (now (out .entry)) 0 (range-line (meant-costs costs)) (now (out .exit)) r ⌝ }
+{
+    match costs {
+        Costs::Between { cheapest, heft } => put_two(out, b"range ", cheapest, heft),
+        Costs::Refused { number, place } => {
+            put_first_line(out, Answer::Refused { number, place })
         }
     }
 }
