@@ -4,6 +4,7 @@ use native.Mathlib.Nat.{mul-le-mul-right}
 use native.Mathlib.Omega.{arith}
 use borrow.Author.Needs.{needs}
 use Rattle.rules.specs.Budget.{budget-between}
+use Rattle.planner.specs.Ready.{budget-between-at-most}
 use Rattle.planner.proofs.budget_between.Statement.{statement}
 use Rattle.planner.proofs.budget_between.Tie as tie
 
@@ -22,7 +23,9 @@ add-result c = omega (arith, share-within c, c .less .ensures)
 
 returns : tie.Need-returns
 unfolding budget-between
-returns c = (rw (c .less .ensures), omega (arith, share-within c, c .less .ensures))
+returns c =
+    let (k-in, cheapest-in, HEFT-in) = c .before .pre in
+    (rw (c .less .ensures), rw (c .less .ensures) (budget-between-at-most _ _ _ k-in cheapest-in HEFT-in))
 
 pub budget-between-spec : {M : Type 1} → statement M
 budget-between-spec = tie.close (tie.spec less-requires mul-result add-result returns)
