@@ -1,4 +1,4 @@
--- How long a line is at most, from how large its numbers are: the first, a refusal's, a row's; and so many lines.
+-- How long a line is at most, from how large its numbers are: the first, the range's, a row's; and so many lines.
 use Prim.Native.Nat.{ℕ, zero, suc, _+_, _*_, _≤_, _<_}
 use mathlib.Core.Path.{_≡_}
 use mathlib.Core.List.{List}
@@ -6,23 +6,32 @@ use native.Mathlib.Nat.{mul-suc}
 use native.Mathlib.Omega.{arith}
 use lib.ListN.{length, length-append}
 use Rattle.rules.specs.Rows.{Row}
-use Rattle.rules.specs.Answer.{planned, refused}
+use Rattle.rules.specs.Answer.{Answer, planned, refused}
 use Rattle.rules.specs.Text.{bytes, decimal, line, first-line, row-line, lines}
-use Rattle.laws.specs.Bounds.{finish-most, total-most, budget-most}
+use Rattle.rules.specs.Range.{range-of, range-line}
 use Rattle.decimals.specs.Decimals.{decimal-length}
 use Rattle.decimals.specs.Fields.{four-numbers, four-fields}
-use Rattle.lines.specs.Lines.{refusal-line}
+use Rattle.lines.specs.Lines.{two-line, two-fields}
 use Rattle.text.specs.PlanBounds.{RowBounds}
+use Rattle.text.specs.AnswerBounds.{AnswerIn}
 
 -- The digits of four numbers, and a byte after each.
 four-length : (a b c d : ℕ) →
     length (four-numbers a b c d) ≡ length (decimal a) + length (decimal b) + length (decimal c) + length (decimal d) + 4
 four-length a b c d = rw (four-fields a b c d) (simp length-append (omega arith))
 
-pub plan-line-at-most : (n long cost left : ℕ) → n ≤ 64 → long ≤ finish-most → cost ≤ total-most → left ≤ budget-most
-    → length (first-line (planned n long cost left)) ≤ 33
+two-length : (opening : List ℕ) (a b : ℕ) → length (two-line opening a b) ≡ length opening + length (decimal a) + length (decimal b) + 2
+two-length opening a b = rw (two-fields opening a b) (simp length-append (omega arith))
+
+refusal-line-at-most : (number place : ℕ) → AnswerIn (refused number place) → length (first-line (refused number place)) ≤ 15
+unfolding first-line bytes
+refusal-line-at-most number place (number-in, place-in) =
+    omega (arith, two-length (bytes "no ") number place, decimal-length 1 number (omega arith), decimal-length 7 place (omega arith))
+
+-- The first line: `plan ` and four numbers, or `no ` and two.
+pub first-line-at-most : (a : Answer) → AnswerIn a → length (first-line a) ≤ 33
 unfolding first-line bytes four-numbers
-plan-line-at-most n long cost left n-in long-in cost-in left-in =
+first-line-at-most (planned n long cost left) (n-in, long-in, cost-in, left-in) =
     omega (
       arith,
       four-length n long cost left,
@@ -31,12 +40,15 @@ plan-line-at-most n long cost left n-in long-in cost-in left-in =
       decimal-length 7 cost (omega arith),
       decimal-length 7 left (omega arith),
     )
+first-line-at-most (refused number place) numbers-in = omega (arith, refusal-line-at-most number place numbers-in)
 
-pub refusal-line-at-most : (number place : ℕ) → number ≤ 11 → place ≤ total-most → length (first-line (refused number place)) ≤ 15
-unfolding bytes
-refusal-line-at-most number place number-in place-in =
-    rw (refusal-line number place)
-    (simp length-append (omega (arith, decimal-length 1 number (omega arith), decimal-length 7 place (omega arith))))
+-- The range's: `range ` and two costs, or a refusal's line.
+pub range-line-at-most : (a b : Answer) → AnswerIn a → AnswerIn b → length (range-line (range-of a b)) ≤ 24
+unfolding range-of range-line bytes
+range-line-at-most (planned _ _ low _) (planned _ _ high _) (_, _, low-in, _) (_, _, high-in, _) =
+    omega (arith, two-length (bytes "range ") low high, decimal-length 7 low (omega arith), decimal-length 7 high (omega arith))
+range-line-at-most (planned _ _ _ _) (refused number place) a-in b-in = omega (arith, refusal-line-at-most number place b-in)
+range-line-at-most (refused number place) b a-in b-in = omega (arith, refusal-line-at-most number place a-in)
 
 row-line-length : (name : List ℕ) (r : Row) →
     length (row-line name r) ≡ length name + suc (length (four-numbers (r .processor) (r .start) (r .finish) (r .cost)))

@@ -1,4 +1,4 @@
--- How large the numbers of a plan are, from what each task adds at most.
+-- How large the numbers of a plan are, by any method, from what each task adds at most.
 use Prim.Native.Nat.{ℕ, _+_, _*_, _≤_, _<_}
 use mathlib.Core.Path.{ap}
 use mathlib.Core.List.{List, [], _∷_}
@@ -6,6 +6,7 @@ use native.Mathlib.Omega.{arith}
 use lib.ListN.{length}
 use Rattle.rules.specs.Workflow.{Workflow}
 use Rattle.rules.specs.Rows.{Row, Placed, row-of, spent, length-of}
+use Rattle.rules.specs.Method.{Name}
 use Rattle.rules.specs.Placing.{row-on}
 use Rattle.good.specs.Ranges.{InRange}
 use Rattle.laws.specs.Bounds.{first-most, added-most, finish-most, cost-most, total-most}
@@ -22,20 +23,20 @@ pub record RowBounds (r : Row) : Type 0 where
   pub cost-in : r .cost ≤ cost-most
 
 module _ (W : Workflow) (range : InRange W) where
-  length-by-steps : (rows : List Placed) → EachStep (AsTheMethod W) rows → length-of rows ≤ first-most + added-most * length rows
+  length-by-steps : (M : Name) (rows : List Placed) → EachStep (AsTheMethod M W) rows → length-of rows ≤ first-most + added-most * length rows
   unfolding length-of row-on
-  length-by-steps [] steps = omega arith
-  length-by-steps (p ∷ before) (step, steps) =
+  length-by-steps M [] steps = omega arith
+  length-by-steps M (p ∷ before) (step, steps) =
       omega (
         arith,
         length-in-reach W (range .minutes-most) (range .transfer-in) (range .clock-in) (range .first-end-in) p before (length before) (p .task) (p .row .processor)
             (ap (λ (r : Row). r .finish) (step .row))
-            (length-by-steps before steps),
+            (length-by-steps M before steps),
       )
 
-  module _ {rows : List Placed} (p : MethodsPlan W rows) where
+  module _ {M : Name} {rows : List Placed} (p : MethodsPlan M W rows) where
     pub length-at-most : length-of rows ≤ finish-most
-    length-at-most = omega (arith, length-by-steps rows (p .steps), p .none-twice, range .tasks-in .to-high)
+    length-at-most = omega (arith, length-by-steps M rows (p .steps), p .none-twice, range .tasks-in .to-high)
 
     row-cost-at-most : (i : ℕ) → i < W .tasks → row-of rows i .cost ≤ cost-most
     row-cost-at-most i l = omega (arith, p .rows-true i l .cost, cost-at-most W range i (row-of rows i .processor))

@@ -1,11 +1,10 @@
--- How the text of a request is printed into a buffer.
+-- How a text is printed into a buffer.
 use Prim.Native.Nat.{ℕ}
 use mathlib.Core.Path.{_≡_}
 use mathlib.Core.Bool.{cond}
 use mathlib.Core.List.{List, _++_}
 use lib.Dec.{leb}
 use lib.ListN.{length, drop}
-use Rattle.rules.specs.Text.{text}
 use Rattle.text.specs.declared.Printed.{Printed}
 use Rattle.text.specs.declared.Printed.the-variants.{Whole, TooSmall}
 
@@ -17,6 +16,6 @@ printed t room = cond (leb (length t) room) (Whole (length t)) (TooSmall (length
 unfoldable pub after : List ℕ → List ℕ → List ℕ
 after t out = cond (leb (length t) (length out)) (t ++ drop (length t) out) out
 
-pub record PrintedAs (s out out′ : List ℕ) (r : Printed) : Type 0 where
-  pub answer-is : r ≡ printed (text s) (length out)
-  pub after-is : out′ ≡ after (text s) out
+pub record PrintedAs (t out out′ : List ℕ) (r : Printed) : Type 0 where
+  pub answer-is : r ≡ printed t (length out)
+  pub after-is : out′ ≡ after t out

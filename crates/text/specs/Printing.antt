@@ -4,27 +4,35 @@ use mathlib.Core.Path.{_≡_, refl, ap}
 use mathlib.Core.Bool.{Bool, true, false, cond}
 use mathlib.Core.List.{List, _++_}
 use native.Mathlib.Omega.{arith}
-use lib.ListN.{length, drop, length-append, length-drop}
+use lib.ListN.{length, take, drop, length-append, length-drop}
 use lib.Dec.{leb}
 use borrow.Author.Tests.{le-leb, lt-leb, leb-true}
-use Rattle.rules.specs.Text.{text}
+use Rattle.text.specs.declared.Printed.{Printed}
 use Rattle.text.specs.declared.Printed.the-variants.{Whole, TooSmall}
 use Rattle.decimals.specs.Wrote.{Room, Wrote, wrote-from-start}
 use Rattle.text.specs.Printed.{printed, after, PrintedAs}
 
-module _ (s out : List ℕ) where
-  pub printed-nothing : {n : ℕ} → n ≡ length (text s) → length out < n → PrintedAs s out out (TooSmall n)
+module _ (t out : List ℕ) where
+  pub printed-nothing : {n : ℕ} → n ≡ length t → length out < n → PrintedAs t out out (TooSmall n)
   unfolding printed after
   printed-nothing {n} long small =
-      let short = lt-leb (length (text s)) (length out) (omega arith) in
+      let short = lt-leb (length t) (length out) (omega arith) in
       record { answer-is = rw short (ap TooSmall long); after-is = rw short }
 
-  pub printed-whole : {out′ : List ℕ} {end : ℕ} → Room out 0 (text s) → Wrote out 0 (text s) out′ end → PrintedAs s out out′ (Whole end)
+  pub printed-whole : {out′ : List ℕ} {end : ℕ} → Room out 0 t → Wrote out 0 t out′ end → PrintedAs t out out′ (Whole end)
   unfolding printed after
   printed-whole {out′} {end} room wrote =
-      let fits = le-leb (length (text s)) (length out) (omega (arith, room .fits)) in
-      let long : end ≡ length (text s) = omega (arith, wrote .ends) in
+      let fits = le-leb (length t) (length out) (omega (arith, room .fits)) in
+      let long : end ≡ length t = omega (arith, wrote .ends) in
       record { answer-is = rw fits (ap Whole long); after-is = rw fits (wrote-from-start wrote) }
+
+-- A text that stands written over the front of another buffer is printed from there.
+module _ {whole whole′ t : List ℕ} {n : ℕ} (wrote : Wrote whole 0 t whole′ n) where
+  pub front-length : n ≡ length (take n whole′)
+  front-length = rw (wrote .front) (omega (arith, wrote .ends))
+
+  pub front-printed : {out out′ : List ℕ} {r : Printed} → PrintedAs (take n whole′) out out′ r → PrintedAs t out out′ r
+  front-printed = rw (wrote .front) (λ printed. printed)
 
 -- What an answer says of the text and of the room.
 module _ (t : List ℕ) (room : ℕ) {n : ℕ} where

@@ -6,8 +6,9 @@ use Rattle.rules.specs.Records.{stopped}
 use Rattle.rules.specs.Reading.{read-request}
 use Rattle.rules.specs.Labels.{label}
 use Rattle.rules.specs.Rows.{Placed, row-of}
-use Rattle.rules.specs.Answer.{Outcome, plan, refusal, answer-of, answer, outcome, refused}
-use Rattle.rules.specs.Text.{first-line, row-line, lines, row-lines, text}
+use Rattle.rules.specs.Method.{Name}
+use Rattle.rules.specs.Answer.{Outcome, plan, refusal, answer-of, answer-asked, outcome-asked, refused}
+use Rattle.rules.specs.Text.{first-line, row-line, lines, row-lines, text-asked}
 use Rattle.demands.specs.Ground.GoodRequest.{outcome-of-stopped}
 use Rattle.placing.specs.Placed.{Columns}
 use Rattle.planner.specs.declared.Planning.{Planning}
@@ -38,17 +39,18 @@ module _ (s : List ℕ) {processors starts finishes costs : List ℕ} where
   due-lines (plan W rows) columns = ap (lines (W .tasks)) (fun-ext (row-there columns))
   due-lines (refusal number place) columns = refl
 
--- The text is the answer's line, and as many rows as the answer has.
-pub planned-text : (s : List ℕ) (p : Planning) → PlanOf (outcome s 64) p
-    → text s ≡ first-line (meant-answer (p .answer)) ++ lines (rows-told (p .answer)) (planning-line s p)
-unfolding text answer
-planned-text s p is =
-    let o = outcome s 64 in
-    sym
-    (ap₂ _++_ (ap first-line (is .answer-is))
-    (ap (λ n. lines n (planning-line s p)) (told-due o (p .answer) (is .answer-is)) ∙ due-lines s o (is .columns)))
+module _ (M : Name) (s : List ℕ) where
+  -- The text is the answer's line, and as many rows as the answer has.
+  pub planned-text : (p : Planning) → PlanOf (outcome-asked M s 64) p
+      → text-asked M s ≡ first-line (meant-answer (p .answer)) ++ lines (rows-told (p .answer)) (planning-line s p)
+  unfolding text-asked answer-asked
+  planned-text p is =
+      let o = outcome-asked M s 64 in
+      sym
+      (ap₂ _++_ (ap first-line (is .answer-is))
+      (ap (λ n. lines n (planning-line s p)) (told-due o (p .answer) (is .answer-is)) ∙ due-lines s o (is .columns)))
 
--- Of a request that is refused in reading there is only the answer's line.
-pub refused-text : (s : List ℕ) {number place : ℕ} → read-request s ≡ stopped number place → text s ≡ first-line (refused number place)
-unfolding text answer answer-of row-lines
-refused-text s e = rw (outcome-of-stopped s e 64) (append-nil _)
+  -- Of a request that is refused in reading there is only the answer's line.
+  pub refused-text : {number place : ℕ} → read-request s ≡ stopped number place → text-asked M s ≡ first-line (refused number place)
+  unfolding text-asked answer-asked answer-of row-lines
+  refused-text e = rw (outcome-of-stopped M s e 64) (append-nil _)

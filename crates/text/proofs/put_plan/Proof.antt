@@ -2,14 +2,16 @@
 use mathlib.Core.Path.{_≡_}
 use mathlib.Core.List.{_++_}
 use Rattle.rules.specs.Workflow.{workflow}
-use Rattle.rules.specs.Method.{HBCS}
 use Rattle.rules.specs.Answer.{outcome-by}
-use Rattle.rules.specs.Text.{first-line, lines, text}
+use Rattle.rules.specs.Text.{first-line, lines, text-asked}
+use Rattle.laws.specs.InForce.{tasks-held}
+use Rattle.choosing.specs.Named.{meant-method}
+use Rattle.reader.specs.Meaning.{meant-share}
 use Rattle.demands.specs.Ground.GoodRequest.{outcome-of-good}
 use Rattle.lookup.specs.Lookup.{workflow-of}
 use Rattle.placing.specs.Arrays.{columns-first}
 use Rattle.planner.specs.declared.Planning.{Planning}
-use Rattle.planner.specs.Planned.{meant-answer, rows-told, planned-in}
+use Rattle.planner.specs.Planned.{meant-answer, rows-told, planned-in, workflow-by}
 use Rattle.planner.specs.Reach.{outcome-by-within, told-due}
 use Rattle.text.specs.AtMost.{room-for-text}
 use Rattle.text.specs.TextParts.{planning-line, planned-text}
@@ -23,16 +25,19 @@ use Rattle.text.proofs.put_plan.Tie as tie
 abbrev plan-of : tie.After-plan-good → Planning
 plan-of c =
     let planned = c .plan-good in
-    let columns = planned .last .1 .1 .1 in
+    let columns = planned .last .1 .1 .1 .1 in
     planned-in (columns .0) (columns .1 .0) (columns .1 .1 .0) (columns .1 .1 .1 .0) (planned .result)
 
 parts : (c : tie.After-plan-good) →
     let p = plan-of c in
-    let s = c .before .before .before .before .before .before .before .args .s .now in
-    text s ≡ first-line (meant-answer (p .answer)) ++ lines (rows-told (p .answer)) (planning-line s p)
+    let a = c .before .before .before .before .before .before .before .args in
+    let s = a .s .now in
+    text-asked (meant-method (a .method)) s ≡ first-line (meant-answer (p .answer)) ++ lines (rows-told (p .answer)) (planning-line s p)
 parts c =
     let start = c .before .before .before .before .before .before .before in
-    planned-text (start .args .s .now) (plan-of c) (rw (outcome-of-good (start .args .s .now) (start .pre .0) 64) (c .plan-good .ensures))
+    let M = meant-method (start .args .method) in
+    let s = start .args .s .now in
+    planned-text M s (plan-of c) (rw (outcome-of-good M s (start .pre .0) 64) (c .plan-good .ensures))
 
 room : (c : tie.After-plan-good) →
     let p = plan-of c in
@@ -40,7 +45,7 @@ room : (c : tie.After-plan-good) →
     Room (a .out .now) 0 (first-line (meant-answer (p .answer)) ++ lines (rows-told (p .answer)) (planning-line (a .s .now) p))
 room c =
     let start = c .before .before .before .before .before .before .before in
-    rw (parts c) at (room-for-text (start .args .s .now) (start .args .out .now) (start .pre .1))
+    rw (parts c) at (room-for-text (meant-method (start .args .method)) (start .args .s .now) (start .args .out .now) (start .pre .1))
 
 plan-good-requires : tie.Need-plan-good-requires
 plan-good-requires c κs = (c .before .before .before .before .before .before .pre .0, columns-first)
@@ -58,11 +63,14 @@ put-rows-requires c κs =
     let told = counted .before .before .before in
     let planned = told .before .before in
     let start = planned .before .before .before .before .before .before .before in
-    let W = workflow-of (start .args .s .now) (start .args .v) in
-    let told-is = told-due (outcome-by HBCS W 64) (plan-of planned .answer) (planned .plan-good .ensures .answer-is) in (
+    let M = meant-method (start .args .method) in
+    let s = start .args .s .now in
+    let v = start .args .v in
+    let W = workflow-by M s v in
+    let told-is = told-due (outcome-by M W 64) (plan-of planned .answer) (planned .plan-good .ensures .answer-is) in (
       start .pre .0,
       (
-        omega (arith, counted .rows-of .ensures, told-is, outcome-by-within W 64),
+        omega (arith, counted .rows-of .ensures, told-is, outcome-by-within M W 64, tasks-held (meant-share (v .share)) (workflow-of s v) M),
         rw (counted .rows-of .ensures) (room-next (room planned) (told .put-first-line .ensures)),
       ),
     )

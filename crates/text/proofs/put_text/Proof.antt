@@ -2,6 +2,7 @@
 use mathlib.Core.Path.{_≡_, sym, ap, _∙_}
 use Rattle.rules.specs.Records.{stopped}
 use Rattle.rules.specs.Reading.{read-request}
+use Rattle.choosing.specs.Named.{meant-method}
 use Rattle.reader.specs.Meaning.{meant-reading}
 use Rattle.planner.specs.Planned.{meant-answer}
 use Rattle.text.specs.AtMost.{room-for-text}
@@ -37,8 +38,9 @@ unfolding meant-answer
 put-first-line-requires c κs =
     let told = c .before .before in
     let start = told .before .before .before .before .before in
+    let M = meant-method (start .args .method) in
     let s = start .args .request .now in
-    rw (refused-text s (refusal-is told)) at (room-for-text s (start .args .out .now) (start .pre))
+    rw (refused-text M s (refusal-is told)) at (room-for-text M s (start .args .out .now) (start .pre))
 
 same-length : tie.Need-same-length
 same-length c = search needs
@@ -54,7 +56,7 @@ unfolding meant-answer
 returns-2 c =
     let written = c .before .before in
     let told = written .before .before .before in
-    rw (refused-text _ (refusal-is told)) (written .put-first-line .ensures)
+    rw (refused-text _ _ (refusal-is told)) (written .put-first-line .ensures)
 
 pub put-text-spec : {M : Type 1} → statement M
 put-text-spec =
