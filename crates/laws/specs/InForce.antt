@@ -1,5 +1,4 @@
 -- What is in force changes no task, no path and no cost: by each method a workflow with it has the tasks, cycles and cheapest total of the workflow as it was read.
-use Prim.Native.Nat.{ℕ}
 use mathlib.Core.Path.{_≡_, refl}
 use Rattle.rules.specs.Reading.{Share}
 use Rattle.rules.specs.Workflow.{Workflow}

@@ -1,6 +1,5 @@
 -- The rules leave no choice: of those that may be next one task has the highest R and then the lowest number, and one processor is the method's choice. So two plans made as the
 -- method says are one.
-use Prim.Native.Nat.{ℕ}
 use mathlib.Core.Path.{_≡_, refl, sym, ap₂, _∙_, subst}
 use mathlib.Core.List.{List, [], _∷_}
 use native.Mathlib.Omega.{arith}

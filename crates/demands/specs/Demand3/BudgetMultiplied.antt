@@ -9,7 +9,7 @@ use Rattle.rules.specs.Ranks.{cheapest-total}
 use Rattle.rules.specs.Rows.{spent}
 use Rattle.rules.specs.Method.{HEFT, Name, by-HBCS, by-cheapest, by-HEFT}
 use Rattle.rules.specs.Placing.{place}
-use Rattle.rules.specs.Budget.{in-force, unbound, cost-alone, budget-between, budget-of, held-to}
+use Rattle.rules.specs.Budget.{in-force, unbound, cost-alone, budget-of, held-to}
 use Rattle.rules.specs.Multiplied.{multiplied, multiplied-deadline}
 use Rattle.demands.specs.Demand2.TwoPlans.{at-0, at-1000}
 use Rattle.demands.specs.Demand3.HBCSMultiplied.{HEFT-keeps-choices}

@@ -7,7 +7,7 @@ use native.Mathlib.Decide.{decLe}
 use native.Mathlib.Omega.{arith}
 use lib.Dec.{leb}
 use borrow.Author.Tests.{leb-true, le-leb}
-use Rattle.rules.specs.Orders.{Order, tie, lower, first}
+use Rattle.rules.specs.Orders.{tie, lower, first}
 use Rattle.rules.specs.Method.{Question, best, may-be-taken, Cheapest}
 use Rattle.laws.specs.Tests.{and-both}
 use Rattle.laws.specs.Orders.{lower-true, lower-false}
