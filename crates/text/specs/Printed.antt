@@ -1,5 +1,5 @@
 -- How a text is printed into a buffer.
-use Prim.Native.Nat.{ℕ}
+use Prim.Native.Nat.{ℕ, _≤_}
 use mathlib.Core.Path.{_≡_}
 use mathlib.Core.Bool.{cond}
 use mathlib.Core.List.{List, _++_}
@@ -19,3 +19,8 @@ after t out = cond (leb (length t) (length out)) (t ++ drop (length t) out) out
 pub record PrintedAs (t out out′ : List ℕ) (r : Printed) : Type 0 where
   pub answer-is : r ≡ printed t (length out)
   pub after-is : out′ ≡ after t out
+
+-- What is printed whole lies inside the buffer.
+abbrev pub FitsIn : (room : ℕ) → Printed → Type 0
+FitsIn room (Whole n) = n ≤ room
+FitsIn room (TooSmall n) = Unit {0}

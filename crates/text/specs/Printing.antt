@@ -1,6 +1,6 @@
 -- The two ways that printing ends: the buffer is too small and keeps its content, or the text is written over its front.
 use Prim.Native.Nat.{ℕ, _≤_, _<_}
-use mathlib.Core.Path.{_≡_, refl, ap}
+use mathlib.Core.Path.{_≡_, refl, sym, ap, subst, _∙_}
 use mathlib.Core.Bool.{Bool, true, false, cond}
 use mathlib.Core.List.{List, _++_}
 use native.Mathlib.Omega.{arith}
@@ -10,7 +10,7 @@ use borrow.Author.Tests.{le-leb, lt-leb, leb-true}
 use Rattle.text.specs.declared.Printed.{Printed}
 use Rattle.text.specs.declared.Printed.the-variants.{Whole, TooSmall}
 use Rattle.decimals.specs.Wrote.{Room, Wrote, wrote-from-start}
-use Rattle.text.specs.Printed.{printed, after, PrintedAs}
+use Rattle.text.specs.Printed.{printed, after, PrintedAs, FitsIn}
 
 module _ (t out : List ℕ) where
   pub printed-nothing : {n : ℕ} → n ≡ length t → length out < n → PrintedAs t out out (TooSmall n)
@@ -34,15 +34,15 @@ module _ {whole whole′ t : List ℕ} {n : ℕ} (wrote : Wrote whole 0 t whole�
   pub front-printed : {out out′ : List ℕ} {r : Printed} → PrintedAs (take n whole′) out out′ r → PrintedAs t out out′ r
   front-printed = rw (wrote .front) (λ printed. printed)
 
--- What an answer says of the text and of the room.
+-- Either answer tells how long the text is.
 module _ (t : List ℕ) (room : ℕ) {n : ℕ} where
-  pub whole-printed : Whole n ≡ printed t room → (n ≡ length t) × (n ≤ room)
+  pub whole-printed : Whole n ≡ printed t room → n ≡ length t
   unfolding printed
-  whole-printed = go (leb (length t) room) refl
+  whole-printed = go (leb (length t) room)
     where
-      go : (b : Bool) → leb (length t) room ≡ b → Whole n ≡ cond b (Whole (length t)) (TooSmall (length t)) → (n ≡ length t) × (n ≤ room)
-      go true fits e = let same : n ≡ length t = cc in (same, omega (arith, leb-true (length t) room fits))
-      go false fits e = let z : _≡_ {A = ℕ} 0 1 = cc in absurd (omega arith)
+      go : (b : Bool) → Whole n ≡ cond b (Whole (length t)) (TooSmall (length t)) → n ≡ length t
+      go true e = cc
+      go false e = let z : _≡_ {A = ℕ} 0 1 = cc in absurd (omega arith)
 
   pub too-small-printed : TooSmall n ≡ printed t room → n ≡ length t
   unfolding printed
@@ -53,7 +53,7 @@ module _ (t : List ℕ) (room : ℕ) {n : ℕ} where
       go false e = cc
 
 -- Printing keeps the buffer's length.
-pub length-after : (t out : List ℕ) → length (after t out) ≡ length out
+length-after : (t out : List ℕ) → length (after t out) ≡ length out
 unfolding after
 length-after t out = go (leb (length t) (length out)) refl
   where
@@ -61,3 +61,14 @@ length-after t out = go (leb (length t) (length out)) refl
     go true fits =
         omega (arith, leb-true (length t) (length out) fits, length-append t (drop (length t) out), length-drop (length t) out)
     go false fits = refl
+
+-- What is printed whole lies inside the buffer as it is then.
+pub printed-fits : {t out out′ : List ℕ} {r : Printed} → PrintedAs t out out′ r → FitsIn (length out′) r
+unfolding printed
+printed-fits {t} {out} {out′} p =
+    subst (FitsIn (length out′)) (sym (p .answer-is))
+    (subst (λ room. FitsIn room (printed t (length out))) (sym (ap length (p .after-is) ∙ length-after t out)) (go (leb (length t) (length out)) refl))
+  where
+    go : (b : Bool) → leb (length t) (length out) ≡ b → FitsIn (length out) (cond b (Whole (length t)) (TooSmall (length t)))
+    go true fits = leb-true (length t) (length out) fits
+    go false fits = tt

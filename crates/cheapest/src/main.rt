@@ -1,0 +1,6 @@
+// The program: reads a request, prints its cheapest plan, and writes that in one piece.
+use choosing::Method;
+
+fn main() {
+    programs::write_plan(Method::Cheapest);
+}
