@@ -36,7 +36,8 @@ use denote.Triple.Statement.{Contract, Triple}
 use denote.Triple.Entry.{onEntry}
 use denote.Triple.Spec.{Meets, tripleOf}
 use denote.Triple.Table.{entered, cited}
-use denote.Triple.Walked.{says, Stays, stay-dropped, stay-none-slice, gave-slice, walkOf, goes-dropped, goes-none-slice, goes-gave-slice, Walks, ends-at, walked, walk-meets}
+use denote.Triple.Walked.{Stays, stay-dropped, stay-none-slice, gave-slice, goes-dropped, goes-none-slice, goes-gave-slice}
+use denote.Triple.Walked.{says, walkOf, Walks, ends-at, walked, walk-meets}
 use denote.Exit.{yes}
 use Rattle.rules.specs.Answer.{outcome-asked}
 use Rattle.laws.specs.Overwritten.{overwritten}
@@ -99,8 +100,8 @@ lent = tyRef erased mut (pointee (row-type.the-row .written))
 
 abbrev locals : List Local
 locals =
-    local answer-laws.mir valueLocal ∷ local bytes valueLocal ∷ local method-laws.mir valueLocal ∷ local rows valueLocal ∷ local word valueLocal ∷ local planning-laws.mir valueLocal
-    ∷ local word valueLocal ∷ local tyUnit valueLocal ∷ local lent valueLocal ∷ local (sliceTy lent) valueLocal ∷ []
+    local answer-laws.mir valueLocal ∷ local bytes valueLocal ∷ local method-laws.mir valueLocal ∷ local rows valueLocal ∷ local word valueLocal
+    ∷ local planning-laws.mir valueLocal ∷ local word valueLocal ∷ local tyUnit valueLocal ∷ local lent valueLocal ∷ local (sliceTy lent) valueLocal ∷ []
 
 -- The code with its locals' types written out, without which the check runs out of steps.
 abbrev function : Fn
@@ -185,7 +186,8 @@ module _ {M : Type 1} (𝓤 : URA M) (H : Heap 𝓤) (A : Atoms 𝓤) (W : Given
       qed W (‵ (flft κ₀ q₀) ∷ ‵ Request ∷ []) ∵ move ! (1 ∷ []) $
       use1 W (‵ Request ⊛ ‵ Request) (shr-slice-copy 𝓤 H A W (named 0) κ₀ u8 .twice c (cv ∷ [])) $ split ! $
       nothing ! $ owned ! usize (Is usize) (uint-makes 𝓤 H A W w64) m _ (refl, fits) $ fjoin ! $
-      owned ! method-type.the-row (Is method-type.the-row) (enum.makes method-type.the-type method-laws.the-plain 𝓤 H A) asked _ is-asked $ fjoin ! $ move ! (1 ∷ 0 ∷ []) $ fjoin ! $
+      owned ! method-type.the-row (Is method-type.the-row) (enum.makes method-type.the-type method-laws.the-plain 𝓤 H A) asked _ is-asked $
+      fjoin ! $ move ! (1 ∷ 0 ∷ []) $ fjoin ! $
       nothing ! $ move ! (3 ∷ 0 ∷ []) $ join ! $ move ! (0 ∷ 1 ∷ []) $ join ! $ nothing ! $ move ! (1 ∷ 0 ∷ []) $ join ! $ frame ! $ done !
 
   module _ (p : Planning) (v : Val) (is-p : Is planning.the-row p (v ∷ [])) where
@@ -224,7 +226,8 @@ module _ {M : Type 1} (𝓤 : URA M) (H : Heap 𝓤) (A : Atoms 𝓤) (W : Given
       body =
           sets ! 18 (of-opd ! (of-field ! 18 refl (sub ! 1 refl (whole !)))) refl (tt, record { fits = omega (arith, m-fits, c-fits) }) $
           move ! (20 ∷ 22 ∷ []) $ use2 W (raw (Core 𝓤 H A mem run .pre to-core) ⊛ ‵ Request) (asks-core is-asked m-fits) $ split ! $
-          calls-met ! core.ended (core.clauses 𝓤 H A mem run) fm (met .core-met) to-core (λ p ws. PlanOf (outcome-asked (meant-method asked) (now c) m) p) (λ p ws. refl)
+          calls-met ! core.ended (core.clauses 𝓤 H A mem run) fm (met .core-met) to-core
+          (λ p ws. PlanOf (outcome-asked (meant-method asked) (now c) m) p) (λ p ws. refl)
           (and-then ! (of-local ! 20 refl) (and-then ! (of-local ! 20 refl) (and-then ! (of-local ! 20 refl) (no-more !))))
           (λ v p ws planned is-p. drop ! $ drop ! $ use1 W (‵ (flft κ₀ q₀) ⊛ ‵ ftrue) (id⊢ 𝓤 _) $ split ! $ move ! (1 ∷ []) $ drop ! $
           -- the first token; the request; the locals; the second token; the rows
@@ -279,15 +282,16 @@ module _ {M : Type 1} (𝓤 : URA M) (H : Heap 𝓤) (A : Atoms 𝓤) (W : Given
     (met : Met 𝓤 H A mem run (𝓣 .C)) where
   walks : Walks 𝓤 H A this.ended stayed (WpFn 𝓤 H (𝓣 .C) (𝓣 .Λ) code.function) (this.clauses 𝓤 H A mem run)
   walks =
-      walked 𝓤 H A this.ended stayed (this.clauses 𝓤 H A mem run) (WpFn 𝓤 H (𝓣 .C) (𝓣 .Λ) code.function) (λ κs. (slice-vals, (enum.vals method-type.the-type method-laws.the-laws, (slice-vals, tt))))
+      walked 𝓤 H A this.ended stayed (this.clauses 𝓤 H A mem run) (WpFn 𝓤 H (𝓣 .C) (𝓣 .Λ) code.function)
+      (λ κs. (slice-vals, (enum.vals method-type.the-type method-laws.the-laws, (slice-vals, tt))))
       (λ κs. (
         shr-slice-tells (named 0) (κs .0) u8,
         (enum.tells method-type.the-type method-laws.the-laws, (mut-slice-tells (named 1) (κs .1 .0) row-type.the-row, tt)),
       ))
       (λ κs qs bounds a g are.
       via 𝓤 _ (fst∗ 𝓤 _ (emp 𝓤))
-      (walk 𝓤 H A W mem run (κs .0) (κs .1 .0) (qs .0) (qs .1 .0) (a .0) (a .1 .0) (a .1 .1 .0 .ptr .0) (a .1 .1 .0 .ptr .1) (a .1 .1 .0 .name) (a .1 .1 .0 .now)
-      (𝓣 .C) (𝓣 .Λ) (fmOf 𝓤 H (W .laws) 𝓣) met (are .0 .0 .1 .0) (are .1 .0) (are .1 .1 .0 .0 .1 .0)))
+      (walk 𝓤 H A W mem run (κs .0) (κs .1 .0) (qs .0) (qs .1 .0) (a .0) (a .1 .0) (a .1 .1 .0 .ptr .0) (a .1 .1 .0 .ptr .1) (a .1 .1 .0 .name)
+      (a .1 .1 .0 .now) (𝓣 .C) (𝓣 .Λ) (fmOf 𝓤 H (W .laws) 𝓣) met (are .0 .0 .1 .0) (are .1 .0) (are .1 .1 .0 .0 .1 .0)))
 
   meets : Meets 𝓤 H A this.signature (WpFn 𝓤 H (𝓣 .C) (𝓣 .Λ) code.function) (this.spec 𝓤 H A mem run)
   meets =

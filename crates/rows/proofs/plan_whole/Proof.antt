@@ -78,7 +78,10 @@ use Rattle.rows.proofs.plan_whole.Code as code
 use Rattle.rows.proofs.plan_whole.Code.Mir as text
 
 abbrev stayed : Stays (this.ended .signature .params) (this.ended .kept)
-stayed = (stay-dropped (shrSliceOf (0 ∷ []) tt (plain (λ _. u8))) yes, (stay-dropped (plain (λ _. method-type.the-row)) yes, (stay-dropped (plain (λ _. row-type.the-row)) yes, tt)))
+stayed = (
+  stay-dropped (shrSliceOf (0 ∷ []) tt (plain (λ _. u8))) yes,
+  (stay-dropped (plain (λ _. method-type.the-row)) yes, (stay-dropped (plain (λ _. row-type.the-row)) yes, tt)),
+)
 
 abbrev bytes : Ty
 bytes = sliceTy (tyRef (named 0) imm (tyInt w8))
@@ -103,8 +106,9 @@ module _ {M : Type 1} (𝓤 : URA M) (H : Heap 𝓤) (A : Atoms 𝓤) (W : Given
 
 abbrev locals : List Local
 locals =
-    local whole-laws.mir valueLocal ∷ local bytes valueLocal ∷ local method-laws.mir valueLocal ∷ local row-laws.mir valueLocal ∷ local array memorySlot ∷ local answer-laws.mir valueLocal
-    ∷ local array valueLocal ∷ local (tyRef erased mut (tyArray (pointee (row-type.the-row .written)) 64)) valueLocal
+    local whole-laws.mir valueLocal ∷ local bytes valueLocal ∷ local method-laws.mir valueLocal ∷ local row-laws.mir valueLocal
+    ∷ local array memorySlot ∷ local answer-laws.mir valueLocal ∷ local array valueLocal
+    ∷ local (tyRef erased mut (tyArray (pointee (row-type.the-row .written)) 64)) valueLocal
     ∷ local (sliceTy (tyRef erased mut (pointee (row-type.the-row .written)))) valueLocal ∷ []
 
 -- The code with its locals' types written out, without which the check runs out of steps.
@@ -159,11 +163,13 @@ module _ {M : Type 1} (𝓤 : URA M) (H : Heap 𝓤) (A : Atoms 𝓤) (W : Given
   abbrev Request : Fml
   Request = ShrSlice (named 0) κ u8 .own c (cv ∷ [])
 
-  exits : (r : WholePlan) (u : Val) → PlannedWhole (meant-method asked) (now c) blank r → ent 𝓤 (⋆ 𝓤 H A (‵ (flft κ q) ∷ ‵ (whole-type.the-row .own r (u ∷ [])) ∷ [])) (Post u)
+  exits : (r : WholePlan) (u : Val) → PlannedWhole (meant-method asked) (now c) blank r
+      → ent 𝓤 (⋆ 𝓤 H A (‵ (flft κ q) ∷ ‵ (whole-type.the-row .own r (u ∷ [])) ∷ [])) (Post u)
   exits r u planned =
       qed W (‵ (flft κ q) ∷ ‵ (whole-type.the-row .own r (u ∷ [])) ∷ []) ∵
       suffices ! _ (ends-at 𝓤 H A this.ended stayed (this.clauses 𝓤 H A memory run) W bound u r (tt, (tt, (tt, tt))) (tt, (tt, (tt, tt)))) $
-      says ! planned $ nothing ! $ move ! (1 ∷ 0 ∷ []) $ join ! $ frame ! $ nothing ! $ nothing ! $ fjoin ! $ nothing ! $ fjoin ! $ nothing ! $ fjoin ! $ frame ! $ done !
+      says ! planned $ nothing ! $ move ! (1 ∷ 0 ∷ []) $ join ! $ frame ! $ nothing ! $ nothing ! $ fjoin ! $ nothing ! $ fjoin ! $
+      nothing ! $ fjoin ! $ frame ! $ done !
 
   -- What each function is passed, and asks.
   module _ (is-b : Is row-type.the-row blank (bv ∷ [])) where
@@ -205,7 +211,8 @@ module _ {M : Type 1} (𝓤 : URA M) (H : Heap 𝓤) (A : Atoms 𝓤) (W : Given
     asks-plan is-asked =
         qed W ((‵ (flft κ q) ⊛ ‵ (flft (α ∷ []) fullShare)) ∷ ‵ Request ∷ ‵ Rows ∷ []) ∵
         nothing ! $ move ! (3 ∷ 0 ∷ []) $ fjoin ! $
-        owned ! method-type.the-row (Is method-type.the-row) (enum.makes method-type.the-type method-laws.the-plain 𝓤 H A) asked _ is-asked $ fjoin ! $ move ! (2 ∷ 0 ∷ []) $ fjoin ! $
+        owned ! method-type.the-row (Is method-type.the-row) (enum.makes method-type.the-type method-laws.the-plain 𝓤 H A) asked _ is-asked $
+        fjoin ! $ move ! (2 ∷ 0 ∷ []) $ fjoin ! $
         move ! (1 ∷ []) $ split ! $ nothing ! $ move ! (2 ∷ 0 ∷ []) $ join ! $ move ! (1 ∷ 0 ∷ []) $ join ! $ join ! $ nothing ! $ move ! (1 ∷ 0 ∷ []) $ done !
 
   module _ (C : Calls 𝓤 H) (Λ : Loops 𝓤 H) (fm : FmC 𝓤 H (W .laws) C) (met : Met 𝓤 H A memory run C)
@@ -289,7 +296,8 @@ module _ {M : Type 1} (𝓤 : URA M) (H : Heap 𝓤) (A : Atoms 𝓤) (W : Given
       ))
       (λ κs qs bounds a g are.
       via 𝓤 _ (fst∗ 𝓤 _ (emp 𝓤))
-      (walk 𝓤 H A W memory run (κs .0) (qs .0) (a .0) (a .1 .0) (a .1 .1 .0) (𝓣 .C) (𝓣 .Λ) (fmOf 𝓤 H (W .laws) 𝓣) met (are .0 .0 .1 .0) (are .1 .0) (are .1 .1 .0)))
+      (walk 𝓤 H A W memory run (κs .0) (qs .0) (a .0) (a .1 .0) (a .1 .1 .0) (𝓣 .C) (𝓣 .Λ)
+      (fmOf 𝓤 H (W .laws) 𝓣) met (are .0 .0 .1 .0) (are .1 .0) (are .1 .1 .0)))
 
   meets : Meets 𝓤 H A this.signature (WpFn 𝓤 H (𝓣 .C) (𝓣 .Λ) code.function) (this.spec 𝓤 H A memory run)
   meets =
