@@ -2,17 +2,21 @@
 ghost use mathlib.Core.Path.{_≡_};
 ghost use Rattle.label.specs.Label.{ListedTold, LabelLength};
 ghost use Rattle.rules.specs.Reading.{read-request};
-ghost use lib.ListN.{length};
 ghost use Rattle.rules.specs.Labels.{label-lookup};
-ghost use Rattle.rules.specs.Text.{text};
-ghost use Rattle.text.specs.Printed.{after};
-ghost use Rattle.reader.specs.Meaning.{meant-deadline};
+ghost use Rattle.rules.specs.Method.{by-HBCS, by-cheapest, by-HEFT};
+ghost use Rattle.rules.specs.Text.{text-asked};
+ghost use Rattle.rules.specs.Range.{range};
+ghost use Rattle.choosing.specs.Named.{meant-method};
+ghost use Rattle.reader.specs.Meaning.{meant-deadline, meant-share};
 ghost use Rattle.planner.specs.Planned.{meant-answer};
 ghost use Rattle.buffers.specs.Into.{four};
-ghost use Rattle.exports.specs.Told.{told-deadline, told, told-part, told-answer, PlanTold};
+ghost use Rattle.exports.specs.Told.{told-deadline, told-given, told-share, told, told-part, told-answer, PlanTold, told-costs, TextTold};
+use choosing::Method;
 use planner::Answer;
+use planner::Costs;
 use reader::Deadline;
 use reader::Reading;
+use reader::Share;
 use text::Printed;
 
 // Whether a byte stands in the list.
@@ -32,7 +36,7 @@ pub extern "C" fn zabgurin_label_len(request: &[u8], at: usize) -> usize
 }
 
 // What reading says. `number` is that of the refusal, 1 to 6, with its place; or 0 for a good request, with its numbers and where its parts begin. A
-// deadline of 0 is none.
+// deadline of 0 is none. `share_given` is 1 where the budget is set by a share, else 0, and then `share` is 0 too.
 #[repr(C)]
 pub struct ZabgurinReading {
     pub number: u64,
@@ -41,6 +45,8 @@ pub struct ZabgurinReading {
     pub processors: usize,
     pub budget: u64,
     pub deadline: u64,
+    pub share_given: u64,
+    pub share: u64,
     pub prices_at: usize,
     pub windows_at: usize,
     pub windows: usize,
@@ -59,6 +65,26 @@ fn deadline_minutes(deadline: Deadline) -> u64
     }
 }
 
+// 1 for a share, 0 for none.
+fn is_given(share: Share) -> u64
+    ensures { λ r. ⌜ r ≡ told-given (meant-share share) ⌝ }
+{
+    match share {
+        Share::Without => 0,
+        Share::Of(_) => 1,
+    }
+}
+
+// The thousandths of a share; 0 for none.
+fn thousandths(share: Share) -> u64
+    ensures { λ r. ⌜ r ≡ told-share (meant-share share) ⌝ }
+{
+    match share {
+        Share::Without => 0,
+        Share::Of(k) => k,
+    }
+}
+
 // Reads a request.
 #[no_mangle]
 pub extern "C" fn zabgurin_read(request: &[u8]) -> ZabgurinReading
@@ -68,6 +94,7 @@ pub extern "C" fn zabgurin_read(request: &[u8]) -> ZabgurinReading
     match answer {
         Reading::Good(v) => {
             let deadline = v.deadline;
+            let share = v.share;
             ZabgurinReading {
                 number: 0,
                 place: 0,
@@ -75,6 +102,8 @@ pub extern "C" fn zabgurin_read(request: &[u8]) -> ZabgurinReading
                 processors: v.processors,
                 budget: v.budget,
                 deadline: deadline_minutes(deadline),
+                share_given: is_given(share),
+                share: thousandths(share),
                 prices_at: v.prices_at,
                 windows_at: v.windows_at,
                 windows: v.windows,
@@ -90,6 +119,8 @@ pub extern "C" fn zabgurin_read(request: &[u8]) -> ZabgurinReading
             processors: 0,
             budget: 0,
             deadline: 0,
+            share_given: 0,
+            share: 0,
             prices_at: 0,
             windows_at: 0,
             windows: 0,
@@ -161,8 +192,23 @@ fn answer_told(answer: Answer) -> ZabgurinAnswer
     }
 }
 
-// Plans a request, its rows in four buffers: row i in the numbers at i. As many rows are lent as the shortest buffer has numbers. A plan writes rows 0 to
-// n-1 and keeps what stands after them; a refusal changes nothing.
+// Plans a request by a method, its rows in four buffers: row i in the numbers at i. As many rows are lent as the shortest buffer has numbers. A plan writes rows 0
+// to n-1 and keeps what stands after them; a refusal changes nothing.
+fn plan_by(
+    request: &[u8],
+    method: Method,
+    processors: &mut [u64],
+    starts: &mut [u64],
+    finishes: &mut [u64],
+    costs: &mut [u64],
+) -> ZabgurinAnswer
+    ensures { λ r. ⌜ PlanTold (meant-method method) (now (request .entry)) (four (now (processors .entry)) (now (starts .entry)) (now (finishes .entry)) (now (costs .entry))) (four (now (processors .exit)) (now (starts .exit)) (now (finishes .exit)) (now (costs .exit))) r ⌝ }
+{
+    let answer = buffers::plan_into(request, method, processors, starts, finishes, costs);
+    answer_told(answer)
+}
+
+// Plans a request within its budget.
 #[no_mangle]
 pub extern "C" fn zabgurin_plan(
     request: &[u8],
@@ -171,21 +217,109 @@ pub extern "C" fn zabgurin_plan(
     finishes: &mut [u64],
     costs: &mut [u64],
 ) -> ZabgurinAnswer
-    ensures { λ r. ⌜ PlanTold (now (request .entry)) (four (now (processors .entry)) (now (starts .entry)) (now (finishes .entry)) (now (costs .entry))) (four (now (processors .exit)) (now (starts .exit)) (now (finishes .exit)) (now (costs .exit))) r ⌝ }
+    ensures { λ r. ⌜ PlanTold by-HBCS (now (request .entry)) (four (now (processors .entry)) (now (starts .entry)) (now (finishes .entry)) (now (costs .entry))) (four (now (processors .exit)) (now (starts .exit)) (now (finishes .exit)) (now (costs .exit))) r ⌝ }
 {
-    let answer = buffers::plan_into(request, processors, starts, finishes, costs);
-    answer_told(answer)
+    plan_by(request, Method::Hbcs, processors, starts, finishes, costs)
 }
 
-// Prints the plan of a request, with 64 rows lent, or the refusal. Answers how many bytes the text has. Where the buffer has room for them they stand at its front, and what
-// is after them stays; where it has not, nothing is written.
+// The cheapest plan.
 #[no_mangle]
-pub extern "C" fn zabgurin_print(request: &[u8], out: &mut [u8]) -> usize
-    ensures { λ r. ⌜ (r ≡ length (text (now (request .entry)))) × (now (out .exit) ≡ after (text (now (request .entry))) (now (out .entry))) ⌝ }
+pub extern "C" fn zabgurin_cheapest(
+    request: &[u8],
+    processors: &mut [u64],
+    starts: &mut [u64],
+    finishes: &mut [u64],
+    costs: &mut [u64],
+) -> ZabgurinAnswer
+    ensures { λ r. ⌜ PlanTold by-cheapest (now (request .entry)) (four (now (processors .entry)) (now (starts .entry)) (now (finishes .entry)) (now (costs .entry))) (four (now (processors .exit)) (now (starts .exit)) (now (finishes .exit)) (now (costs .exit))) r ⌝ }
 {
-    let printed = text::print(request, out);
+    plan_by(
+        request,
+        Method::Cheapest,
+        processors,
+        starts,
+        finishes,
+        costs,
+    )
+}
+
+// The HEFT plan.
+#[no_mangle]
+pub extern "C" fn zabgurin_heft(
+    request: &[u8],
+    processors: &mut [u64],
+    starts: &mut [u64],
+    finishes: &mut [u64],
+    costs: &mut [u64],
+) -> ZabgurinAnswer
+    ensures { λ r. ⌜ PlanTold by-HEFT (now (request .entry)) (four (now (processors .entry)) (now (starts .entry)) (now (finishes .entry)) (now (costs .entry))) (four (now (processors .exit)) (now (starts .exit)) (now (finishes .exit)) (now (costs .exit))) r ⌝ }
+{
+    plan_by(request, Method::Heft, processors, starts, finishes, costs)
+}
+
+// What the cheapest plan and the HEFT plan cost. `number` is that of the refusal that both get, 1 to 6 or 8, with its place; or 0, with the costs.
+#[repr(C)]
+pub struct ZabgurinCosts {
+    pub number: u64,
+    pub place: u64,
+    pub cheapest: u64,
+    pub heft: u64,
+}
+
+// The range that a budget is set in, with 64 rows lent.
+#[no_mangle]
+pub extern "C" fn zabgurin_range(request: &[u8]) -> ZabgurinCosts
+    ensures { λ r. ⌜ r ≡ told-costs (range (now (request .entry))) ⌝ }
+{
+    let costs = planner::range(request);
+    match costs {
+        Costs::Between { cheapest, heft } => ZabgurinCosts {
+            number: 0,
+            place: 0,
+            cheapest,
+            heft,
+        },
+        Costs::Refused { number, place } => ZabgurinCosts {
+            number,
+            place,
+            cheapest: 0,
+            heft: 0,
+        },
+    }
+}
+
+// Prints the plan of a request by a method, with 64 rows lent, or the refusal. Answers how many bytes the text has. Where the buffer has room for them they stand at its
+// front, and what is after them stays; where it has not, nothing is written.
+fn print_by(request: &[u8], method: Method, out: &mut [u8]) -> usize
+    ensures { λ r. ⌜ TextTold (text-asked (meant-method method) (now (request .entry))) (now (out .entry)) (now (out .exit)) r ⌝ }
+{
+    let printed = text::print(request, method, out);
     match printed {
         Printed::Whole(length) => length,
         Printed::TooSmall(length) => length,
     }
+}
+
+// Prints the plan within its budget.
+#[no_mangle]
+pub extern "C" fn zabgurin_print(request: &[u8], out: &mut [u8]) -> usize
+    ensures { λ r. ⌜ TextTold (text-asked by-HBCS (now (request .entry))) (now (out .entry)) (now (out .exit)) r ⌝ }
+{
+    print_by(request, Method::Hbcs, out)
+}
+
+// Prints the cheapest plan.
+#[no_mangle]
+pub extern "C" fn zabgurin_print_cheapest(request: &[u8], out: &mut [u8]) -> usize
+    ensures { λ r. ⌜ TextTold (text-asked by-cheapest (now (request .entry))) (now (out .entry)) (now (out .exit)) r ⌝ }
+{
+    print_by(request, Method::Cheapest, out)
+}
+
+// Prints the HEFT plan.
+#[no_mangle]
+pub extern "C" fn zabgurin_print_heft(request: &[u8], out: &mut [u8]) -> usize
+    ensures { λ r. ⌜ TextTold (text-asked by-HEFT (now (request .entry))) (now (out .entry)) (now (out .exit)) r ⌝ }
+{
+    print_by(request, Method::Heft, out)
 }

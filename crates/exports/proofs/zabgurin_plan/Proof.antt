@@ -1,15 +1,11 @@
--- What the planner leaves, with its answer told.
-use mathlib.Core.Path.{ap, _∙_}
-use Rattle.exports.specs.Told.{told-answer}
+-- The method by its name.
+use Rattle.choosing.specs.Named.{meant-method}
 use borrow.Author.Needs.{needs}
 use Rattle.exports.proofs.zabgurin_plan.Statement.{statement}
 use Rattle.exports.proofs.zabgurin_plan.Tie as tie
 
-plan-into-requires : tie.Need-plan-into-requires
-plan-into-requires c κs = search needs
-
-answer-told-requires : tie.Need-answer-told-requires
-answer-told-requires c κs = search needs
+plan-by-requires : tie.Need-plan-by-requires
+plan-by-requires c κs = search needs
 
 same-length : tie.Need-same-length
 same-length c = search needs
@@ -24,18 +20,10 @@ same-length-4 : tie.Need-same-length-4
 same-length-4 c = search needs
 
 returns : tie.Need-returns
-returns c =
-    let plan-into = c .before .before .before .before .before .before .before .before .before .plan-into .ensures in
-    record { answer-is = c .answer-told .ensures ∙ ap told-answer (plan-into .answer-is); after-is = plan-into .after-is }
+unfolding meant-method
+returns c = c .before .before .before .before .before .before .before .before .plan-by .ensures
 
 pub zabgurin-plan-spec : {M : Type 1} → statement M
 zabgurin-plan-spec =
     tie.close
-    (tie.spec
-    plan-into-requires
-    answer-told-requires
-    same-length
-    same-length-2
-    same-length-3
-    same-length-4
-    returns)
+    (tie.spec plan-by-requires same-length same-length-2 same-length-3 same-length-4 returns)
