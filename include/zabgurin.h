@@ -6,15 +6,15 @@
    stack, from its return address down; the arguments that stand in the caller's frame are not counted. That is added up from the compiled frames and measured,
    not proved, and holds for the library as this version of the kit compiles it:
 
-    zabgurin_plan             8,168 bytes
-    zabgurin_cheapest             0 bytes
-    zabgurin_heft                 0 bytes
-    zabgurin_range                0 bytes
-    zabgurin_print           10,392 bytes
-    zabgurin_print_cheapest       0 bytes
-    zabgurin_print_heft           0 bytes
-    zabgurin_label              584 bytes
-    zabgurin_read               536 bytes
+    zabgurin_print           11,096 bytes
+    zabgurin_print_cheapest  11,096 bytes
+    zabgurin_print_heft      11,096 bytes
+    zabgurin_plan             8,824 bytes
+    zabgurin_cheapest         8,824 bytes
+    zabgurin_heft             8,824 bytes
+    zabgurin_range            8,808 bytes
+    zabgurin_label              632 bytes
+    zabgurin_read               584 bytes
     zabgurin_label_len           40 bytes
     zabgurin_listed               8 bytes
 

@@ -20,10 +20,22 @@ struct Function {
     exported: bool,
     /// What it takes off the stack pointer: its frame, and the arguments that it hands over on the stack.
     frame: usize,
+    /// The arguments of each call that are taken back right behind it, and what the last instruction says of them.
+    arguments: Vec<usize>,
+    last: Last,
     uses_red_zone: bool,
     calls: BTreeSet<String>,
     /// What it goes on to at its end, with its frame gone and its return address left.
     jumps: BTreeSet<String>,
+}
+
+/// The last instruction: a call; or, behind one, so many bytes added to the stack pointer.
+#[derive(Default)]
+enum Last {
+    #[default]
+    Other,
+    Call,
+    TakenBack(usize),
 }
 
 /// Functions, each called by the one before it, and how many bytes of stack they take: their frames and return
@@ -75,6 +87,9 @@ impl Library {
         }
         let mut sizes: BTreeMap<String, usize> = sizes.lines().map(size).collect();
         for (name, function) in &mut functions {
+            // One call's arguments are gone before those of the next are there.
+            let gone = function.arguments.iter().sum::<usize>();
+            function.frame -= gone - function.arguments.iter().max().unwrap_or(&0);
             let (taken, size) = (function.frame, sizes.remove(name).unwrap_or(usize::MAX));
             assert!(
                 size <= taken && taken <= size + ARGUMENTS,
@@ -128,7 +143,18 @@ impl Library {
 impl Function {
     /// One more instruction, its word and the rest without the comment.
     fn instruction(&mut self, word: &str, rest: &str, line: &str) {
+        if word.is_empty() || word.starts_with('.') {
+            return;
+        }
+        // What is added right before the function's end is its frame.
+        let last = std::mem::take(&mut self.last);
+        if let (Last::TakenBack(by), false) =
+            (&last, word.starts_with("pop") || word.starts_with("ret"))
+        {
+            self.arguments.push(*by);
+        }
         if word.starts_with("call") {
+            self.last = Last::Call;
             assert!(!rest.starts_with('*'), "an indirect call: {line}");
             self.calls.insert(name(rest));
         } else if word.starts_with('j') && !rest.starts_with(".L") {
@@ -142,6 +168,9 @@ impl Function {
             self.frame += 8;
         } else if let Some(by) = rest.strip_suffix(", %rsp") {
             let by = by.strip_prefix('$').and_then(|by| by.parse::<isize>().ok());
+            if let (Last::Call, "addq", Some(by @ 1..)) = (last, word, by) {
+                self.last = Last::TakenBack(by as usize);
+            }
             self.frame += match (word, by) {
                 ("subq", Some(by)) => by.max(0) as usize,
                 ("addq", Some(by)) => (-by).max(0) as usize,

@@ -35,6 +35,16 @@ fn arguments_on_the_stack_are_counted() {
     assert_eq!(library.deepest("a").bytes, 8 + 24 + 16 + (8 + 24));
 }
 
+/// Of several calls those with the most; what the last line of a function adds is its frame.
+#[test]
+fn arguments_are_taken_back_before_the_next_call() {
+    let twice =
+        ["pushq\t$1", "callq\tb", "addq\t$8, %rsp", "nop", "pushq\t$1", "pushq\t$2", "callq\tb"];
+    let behind = [&twice[..], &["addq\t$16, %rsp", "nop", "callq\tb"]].concat();
+    let library = library(&[("a", &behind), ("b", &[])]);
+    assert_eq!(library.deepest("a").bytes, 8 + 24 + 16 + (8 + 24));
+}
+
 /// It has the stack of the function that jumps there.
 #[test]
 fn a_jump_to_a_function_leaves_no_frame() {
