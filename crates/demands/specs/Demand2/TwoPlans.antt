@@ -8,7 +8,7 @@ use native.Mathlib.Nat.{le-refl, mul-le-mul-right}
 use native.Mathlib.Omega.{arith}
 use Rattle.rules.specs.Folds.{sum, lowest}
 use Rattle.rules.specs.Records.{read}
-use Rattle.rules.specs.Reading.{no-deadline, thousandths, Request, read-request}
+use Rattle.rules.specs.Reading.{no-deadline, no-share, thousandths, Request, read-request}
 use Rattle.rules.specs.Workflow.{Workflow, workflow}
 use Rattle.rules.specs.Cycle.{Leads}
 use Rattle.rules.specs.Ranks.{cost, lowest-cost, cheapest-total}
@@ -17,6 +17,7 @@ use Rattle.rules.specs.Method.{Cheapest, HEFT, Name, by-HBCS, by-cheapest, by-H
 use Rattle.rules.specs.Placing.{finish-of, question, row-on, place}
 use Rattle.rules.specs.Budget.{in-force, unbound, cost-alone, budget-between, budget-of, held-to, workflow-for}
 use Rattle.rules.specs.Answer.{refused, answer}
+use Rattle.good.specs.ReadIsGood.{read-is-good}
 use Rattle.laws.specs.Folds.{sum-same}
 use Rattle.laws.specs.Unmarked.{sum-unmarked, sum-unmarked-less}
 use Rattle.laws.specs.Begun.{begun, acyclic-begun}
@@ -171,9 +172,14 @@ same-request {s} {r} {r′} passes passes′ =
     let (end′, is′) = read-iff-passes s r′ .1 passes′ in
     cc (is, is′)
 
+-- Without a `K` nothing is in force but what was read.
+pub without-K : (s : List ℕ) (r : Request) → r .share ≡ no-share → workflow-for by-HBCS s r ≡ workflow s r
+unfolding held-to in-force budget-of
+without-K s r none = ap (λ share. held-to by-HBCS share (workflow s r)) none
+
 -- What a request with a `K` is held to: the cheapest total fits, so that 9 cannot come.
 module _ {s : List ℕ} {r : Request} (passes : PassesReading s r) {k : ℕ} (share : r .share ≡ thousandths k) where
-  share-budget : workflow-for by-HBCS s r .budget ≡ budget-between k (cheapest-total (workflow s r)) (cost-alone HEFT (workflow s r))
+  pub share-budget : workflow-for by-HBCS s r .budget ≡ budget-between k (cheapest-total (workflow s r)) (cost-alone HEFT (workflow s r))
   unfolding held-to in-force budget-of
   share-budget = ap (λ x. budget-of x (workflow s r)) share
 
@@ -220,3 +226,19 @@ at-1000-the-HEFT-cost {s} got share =
     let (end, is) = read-iff-passes s (got .request) .1 (got .passes) in
     let budget = share-budget (got .passes) share ∙ at-1000 (cheapest-total W) (cost-alone HEFT W) in
     omega (arith, got .held .money-and-time .0, budget, HEFT-plan-costs W (read-good s is) (read-acyclic got))
+
+-- Between them cost and remainder are together between the two costs.
+pub between-the-costs :
+    {s : List ℕ} {lent n l c left k : ℕ} {row : ℕ → Row} (got : PlanGot by-HBCS s lent n l c left row) → got .request .share ≡ thousandths k →
+    let W = workflow s (got .request) in
+    (cheapest-total W ≤ c + left) × (c + left ≤ cost-alone HEFT W)
+between-the-costs {s} {k = k} got share =
+    let W = workflow s (got .request) in
+    let (end, is) = read-iff-passes s (got .request) .1 (got .passes) in
+    let within = read-is-good s is .share-in k share .0 in
+    let rising = HEFT-plan-costs W (read-good s is) (read-acyclic got) in
+    let budget = share-budget (got .passes) share in
+    let shared = got .held .money-and-time .0 in (
+      omega (arith, shared, budget, budget-at-least k (cheapest-total W) (cost-alone HEFT W)),
+      omega (arith, shared, budget, budget-at-most k (cheapest-total W) (cost-alone HEFT W) within rising),
+    )
