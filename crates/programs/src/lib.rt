@@ -1,37 +1,35 @@
-// What the programs do: read a request, print what is asked for, and write that in one piece.
-ghost use lib.ListN.{length};
-ghost use Rattle.text.specs.Printed.{FitsIn};
+// What the programs write: a text in a lent buffer, and how many bytes of it.
+ghost use mathlib.Core.Path.{_≡_};
+ghost use Rattle.io.specs.Counts.{Counts};
+ghost use Rattle.rules.specs.Text.{text-asked};
+ghost use Rattle.rules.specs.Range.{range-text};
+ghost use Rattle.choosing.specs.Named.{meant-method};
+ghost use Rattle.programs.specs.Told.{to-write, TextIn};
 use choosing::Method;
-use libc::STDIN_FILENO;
-use libc::STDOUT_FILENO;
 use text::Printed;
 
-// Writes what was printed.
-fn write_printed(out: &[u8], printed: Printed)
-    requires { ⌜ FitsIn (length (now out)) printed ⌝ }
+// The bytes of a text that was printed; none where there was no room.
+fn bytes_of(printed: Printed) -> usize
+    ensures { λ r. ⌜ r ≡ to-write printed ⌝ }
 {
     match printed {
-        Printed::Whole(length) => {
-            io::write_all(STDOUT_FILENO, &out[..length]);
-        }
-        Printed::TooSmall(_) => {}
+        Printed::Whole(length) => length,
+        Printed::TooSmall(_) => 0,
     }
 }
 
-// The plan by a method. "reads at most 16,384 bytes from standard input". The largest text has 2,145 bytes, so that it always fits.
-pub fn write_plan(method: Method) {
-    let mut request = [0u8; 16384];
-    let read = io::read_full(STDIN_FILENO, &mut request);
-    let mut out = [0u8; 2304];
-    let printed = text::print(&request[..read], method, &mut out);
-    write_printed(&out, printed);
+// The plan of a request by a method, or the refusal. The largest text has 2,145 bytes.
+pub fn plan_text(request: &[u8], method: Method, out: &mut [u8]) -> usize
+    ensures { λ r. ⌜ Counts r (now (out .exit)) × TextIn (text-asked (meant-method method) (now (request .entry))) (now (out .entry)) (now (out .exit)) r ⌝ }
+{
+    let printed = text::print(request, method, out);
+    bytes_of(printed)
 }
 
-// The range, whose line has at most 24 bytes.
-pub fn write_range() {
-    let mut request = [0u8; 16384];
-    let read = io::read_full(STDIN_FILENO, &mut request);
-    let mut out = [0u8; 64];
-    let printed = text::print_range(&request[..read], &mut out);
-    write_printed(&out, printed);
+// The range of a request, or the refusal. The longest line has 24 bytes.
+pub fn range_text(request: &[u8], out: &mut [u8]) -> usize
+    ensures { λ r. ⌜ Counts r (now (out .exit)) × TextIn (range-text (now (request .entry))) (now (out .entry)) (now (out .exit)) r ⌝ }
+{
+    let printed = text::print_range(request, out);
+    bytes_of(printed)
 }
