@@ -9,7 +9,7 @@ use lib.ListN.{length, set, replicate, length-set, getD-replicate}
 use borrow.Author.Tests.{eq-eqb, ne-eqb}
 use Rattle.rules.specs.Folds.{largest}
 use Rattle.rules.specs.Workflow.{Workflow}
-use Rattle.rules.specs.Start.{arrival, arrived}
+use Rattle.rules.specs.Start.{arrival, awaited, arrived}
 use Rattle.laws.specs.Folds.{largest-next, largest-further}
 use Rattle.laws.specs.Stores.{stored-below, at}
 use Rattle.links.specs.Links.{LastInto}
@@ -34,19 +34,15 @@ module _ {on here across : ℕ} where
       }
 
 module _ (W : Workflow) (sits ends : ℕ → ℕ) (i clock : ℕ) where
-  -- The minute that edge e has task i wait for on processor j; 0 where it does not lead to the task.
-  unfoldable pub awaited : ℕ → ℕ → ℕ
-  awaited j e = cond (eqb (W .to e) i) (arrival W sits ends j e) 0
-
   -- An array of 16 that has when the data is ready on the first m processors as far as the clock and the edges from k on say: with what those below k say, that is
   -- all.
   pub record ReadyFrom (m k : ℕ) (xs : List ℕ) : Type 0 where
     pub size : length xs ≡ 16
-    pub with-rest : (j : ℕ) → j < m → max (at xs j) (largest k (awaited j)) ≡ max clock (arrived W sits ends i j)
+    pub with-rest : (j : ℕ) → j < m → max (at xs j) (largest k (awaited W sits ends i j)) ≡ max clock (arrived W sits ends i j)
     pub past : (j : ℕ) → m ≤ j → j < 16 → at xs j ≡ clock
 
   pub ready-from-end : (m : ℕ) → m ≤ 16 → ReadyFrom m (W .edges) (replicate 16 clock)
-  unfolding arrived awaited
+  unfolding arrived
   ready-from-end m few =
       record {
         size = refl;
@@ -57,12 +53,11 @@ module _ (W : Workflow) (sits ends : ℕ → ℕ) (i clock : ℕ) where
   module _ {m : ℕ} {xs : List ℕ} where
     -- Back to the last edge below k that leads to the task.
     pub ready-from-last : {k next : ℕ} → LastInto W i k next → ReadyFrom m k xs → ReadyFrom m next xs
-    unfolding awaited
     ready-from-last {k} {next} last so-far =
         record {
           size = so-far .size;
           with-rest = λ j l.
-              ap (max (at xs j)) (sym (largest-further next k (awaited j) (last .within) (λ e b h. rw (ne-eqb (W .to e) i (last .none-after e b h)))))
+              ap (max (at xs j)) (sym (largest-further next k (awaited W sits ends i j) (last .within) (λ e b h. rw (ne-eqb (W .to e) i (last .none-after e b h)))))
               ∙ so-far .with-rest j l;
           past = so-far .past;
         }
@@ -71,7 +66,7 @@ module _ (W : Workflow) (sits ends : ℕ → ℕ) (i clock : ℕ) where
     pub ready-from-more :
         {e p t : ℕ} {ys : List ℕ} → W .to e ≡ i → p ≡ W .from e → t ≡ W .transfer e → ReadyFrom m (e + 1) xs
         → WaitedFor m (sits p) (ends p) (ends p + t) xs ys → ReadyFrom m e ys
-    unfolding awaited arrival
+    unfolding arrival
     ready-from-more {e} {p} {t} {ys} leads from transfer so-far waited =
         record {
           size = waited .size ∙ so-far .size;
@@ -80,7 +75,7 @@ module _ (W : Workflow) (sits ends : ℕ → ℕ) (i clock : ℕ) where
                 arith,
                 waited .moved j l,
                 arrives j,
-                largest-next e (awaited j) {x = largest e (awaited j)} {r = max (largest e (awaited j)) (awaited j e)} refl refl,
+                largest-next e (awaited W sits ends i j) {x = largest e (awaited W sits ends i j)} {r = max (largest e (awaited W sits ends i j)) (awaited W sits ends i j e)} refl refl,
                 so-far .with-rest j l,
               );
           past = λ j l b. waited .kept j l ∙ so-far .past j l b;
@@ -90,10 +85,10 @@ module _ (W : Workflow) (sits ends : ℕ → ℕ) (i clock : ℕ) where
         across-or-here true = omega arith
         across-or-here false = refl
 
-        arrives : (j : ℕ) → cond (eqb (sits p) j) (ends p) (ends p + t) ≡ awaited j e
+        arrives : (j : ℕ) → cond (eqb (sits p) j) (ends p) (ends p + t) ≡ awaited W sits ends i j e
         arrives j = rw (eq-eqb (W .to e) i leads, ← from, ← transfer) (across-or-here (eqb (sits p) j))
 
     pub ready-from-start : {k : ℕ} → k ≡ 0 → ReadyFrom m k xs → FromClock clock m (arrived W sits ends i) xs
     unfolding largest
     ready-from-start {k} none all =
-        record { size = all .size; below = λ j l. omega (arith, ap (λ n. max (at xs j) (largest n (awaited j))) none, all .with-rest j l); past = all .past }
+        record { size = all .size; below = λ j l. omega (arith, ap (λ n. max (at xs j) (largest n (awaited W sits ends i j))) none, all .with-rest j l); past = all .past }

@@ -30,6 +30,7 @@ use Rattle.rules.specs.Answer.{outcome-asked, answer-of, answer-asked, a
 use Rattle.rules.specs.Multiplied.{multiplied-deadline, multiplied-interval, multiplied}
 use Rattle.rules.specs.Text.{bytes, digits, decimal, line, first-line, row-line, lines, row-lines, text-asked, program-asked}
 use Rattle.rules.specs.Range.{range-of, range, range-line, range-text, range-program}
+use Rattle.rules.specs.Why.{last-to-arrive, earlier, earliest-met, meets-row, lowest-met, window-or, why-placed, why-of, why-not, why-text, why-program}
 
 -- A number below 65,536 in two bytes, and in four.
 abbrev pub in-two : ℕ → List ℕ
@@ -119,6 +120,7 @@ unfolding
     answer-of answer-asked written rows-asked
     bytes digits decimal line first-line row-line lines row-lines text-asked program-asked
     range-of range range-line range-text range-program
+    last-to-arrive earlier earliest-met meets-row lowest-met window-or why-placed why-of why-not why-text why-program
 given c = record { answer = answer (c .input) (length (c .lent)); rows = rows-after (c .input) (c .lent) }
 
 -- In every case of a list the rules give what is due.

@@ -17,6 +17,7 @@ pub mod Buffers
 pub mod Multiplied
 pub mod Text
 pub mod Range
+pub mod Why
 pub mod Cases
 pub mod Starred
 pub mod Corners

@@ -13,9 +13,13 @@ arrival W sits ends j e =
     let p = W .from e in
     ends p + cond (eqb (sits p) j) 0 (W .transfer e)
 
+-- The minute that edge e has task i wait for on j; 0 where it does not lead to the task.
+abbrev pub awaited : Workflow → (sits ends : ℕ → ℕ) → ℕ → ℕ → ℕ → ℕ
+awaited W sits ends i j e = cond (eqb (W .to e) i) (arrival W sits ends j e) 0
+
 -- "A task's data is ready on j at the largest, over its predecessors p, [..]; 0 without predecessors."
 unfoldable pub arrived : Workflow → (sits ends : ℕ → ℕ) → ℕ → ℕ → ℕ
-arrived W sits ends i j = largest (W .edges) (λ e. cond (eqb (W .to e) i) (arrival W sits ends j e) 0)
+arrived W sits ends i j = largest (W .edges) (awaited W sits ends i j)
 
 -- And not before the clock, which is 0 for a request.
 unfoldable pub ready : Workflow → (sits ends : ℕ → ℕ) → ℕ → ℕ → ℕ
