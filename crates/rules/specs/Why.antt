@@ -7,7 +7,7 @@ use lib.ListN.{take}
 use Rattle.rules.specs.Orders.{tie, higher, among, first}
 use Rattle.rules.specs.Workflow.{Interval, Workflow}
 use Rattle.rules.specs.Start.{awaited, arrived, minutes-from, overlap}
-use Rattle.rules.specs.Rows.{Row, row-of, taken-up}
+use Rattle.rules.specs.Rows.{row-of}
 use Rattle.rules.specs.Answer.{Outcome, plan, refusal, outcome}
 use Rattle.rules.specs.Answer as answers
 use Rattle.rules.specs.Text.{bytes, decimal, first-line}
@@ -42,14 +42,15 @@ earliest-met (v ∷ busy) minutes t =
     let rest = earliest-met busy minutes t in
     cond (overlap (minutes-from t minutes) v) (met (earlier v rest)) rest
 
--- Whether task i, of so many minutes and started at t, would overlap the row of k, which is another task on its processor.
-unfoldable pub meets-row : (ℕ → Row) → (minutes i t k : ℕ) → Bool
-meets-row row minutes i t k =
-    not (eqb k i) && (eqb (row k .processor) (row i .processor) && overlap (minutes-from t minutes) (taken-up (row k)))
+-- Whether task i, of so many minutes and started at t, would overlap the row of k, which is another task on its processor. `sits`, `begins` and `ends` are what
+-- the rows say: on which processor a task is, its start and its finish.
+unfoldable pub meets-row : (sits begins ends : ℕ → ℕ) → (minutes i t k : ℕ) → Bool
+meets-row sits begins ends minutes i t k =
+    not (eqb k i) && (eqb (sits k) (sits i) && overlap (minutes-from t minutes) (record { begin = begins k; end = ends k }))
 
 -- "the lowest task that it would overlap"
-unfoldable pub lowest-met : (tasks : ℕ) → (ℕ → Row) → (minutes i t : ℕ) → ℕ
-lowest-met tasks row minutes i t = first tasks (among (meets-row row minutes i t) tie)
+unfoldable pub lowest-met : (tasks : ℕ) → (sits begins ends : ℕ → ℕ) → (minutes i t : ℕ) → ℕ
+lowest-met tasks sits begins ends minutes i t = first tasks (among (meets-row sits begins ends minutes i t) tie)
 
 unfoldable pub window-or : Met → Why → Why
 window-or none otherwise = otherwise
@@ -57,19 +58,19 @@ window-or (met v) otherwise = in-window (v .begin) (v .end)
 
 -- "data, then windows, then rows": by the rows of a plan, for a start t of task i. Something stands against a start that is below its own (`nothing-earlier` in the
 -- demands), so where it is neither data nor a window it is a row.
-unfoldable pub why-placed : Workflow → (ℕ → Row) → (i t : ℕ) → Why
-why-placed W row i t =
-    let sits : ℕ → ℕ = λ p. row p .processor in
-    let ends : ℕ → ℕ = λ p. row p .finish in
+unfoldable pub why-placed : Workflow → (sits begins ends : ℕ → ℕ) → (i t : ℕ) → Why
+why-placed W sits begins ends i t =
     let j = sits i in
     let minute = arrived W sits ends i j in
-    let k = lowest-met (W .tasks) row (W .minutes i j) i t in
-    cond (leb (row i .start) t) (own-start (row i .start))
+    let k = lowest-met (W .tasks) sits begins ends (W .minutes i j) i t in
+    cond (leb (begins i) t) (own-start (begins i))
     (cond (ltb t minute) (late-data (W .from (last-to-arrive W sits ends i j)) minute)
-    (window-or (earliest-met (W .busy-at-first j) (W .minutes i j) t) (beside-row k (row k .start) (row k .finish))))
+    (window-or (earliest-met (W .busy-at-first j) (W .minutes i j) t) (beside-row k (begins k) (ends k))))
 
 unfoldable pub why-of : Outcome → (i t : ℕ) → Why
-why-of (plan W rows) i t = cond (ltb i (W .tasks)) (why-placed W (row-of rows) i t) (no-task (W .tasks))
+why-of (plan W rows) i t =
+    let why = why-placed W (λ p. row-of rows p .processor) (λ p. row-of rows p .start) (λ p. row-of rows p .finish) i t in
+    cond (ltb i (W .tasks)) why (no-task (W .tasks))
 why-of (refusal number place) i t = no-plan number place
 
 -- With 64 rows lent.
