@@ -22,6 +22,7 @@ pub mod StepsSettled
 pub mod WhatIsDue
 pub mod DueSettled
 pub mod PlanBehind
+pub mod PlacedAt
 pub mod PlacingOrder
 pub mod WithoutZeros
 pub mod RefusalNine
@@ -31,6 +32,7 @@ pub mod ChoiceAsWritten
 pub mod StartAsWritten
 pub mod CostAsWritten
 pub mod WindowsAsWritten
+pub mod NothingEarlier
 pub mod TwoPlans
 pub mod BudgetRange
 use Prim.Native.Nat.{ℕ, _+_, _-_, _≤_, _<_}

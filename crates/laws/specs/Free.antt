@@ -1,11 +1,12 @@
 -- When two intervals overlap, when a task can start, and when all that is busy has ended: what the rules' tests and numbers say of these.
 use Prim.Native.Nat.{ℕ, _+_, _≤_, _<_, max, min}
 use mathlib.Core.Path.{_≡_, refl, ap, subst}
-use mathlib.Core.Bool.{true, not}
+use mathlib.Core.Bool.{Bool, true, false, not, _&&_, true≢false}
 use mathlib.Core.List.{List, [], _∷_, List·Memᴰ, List·Memᴰ·not-nil, List·Memᴰ·cases-cons, List·Memᴰ·head, List·Memᴰ·tail}
 use mathlib.Core.Logic.{_⊎_, inl, inr, ⊎-elim}
 use native.Mathlib.Omega.{arith}
-use borrow.Author.Tests.{ltb-false, le-ltb, not-true}
+use lib.Dec.{ltb}
+use borrow.Author.Tests.{ltb-true, ltb-false, le-ltb, not-true}
 use Rattle.rules.specs.Workflow.{Interval}
 use Rattle.rules.specs.Start.{minutes-from, Overlap, Free, overlap, free, latest-end}
 use Rattle.laws.specs.Tests.{and-both}
@@ -53,6 +54,21 @@ free-tested [] minutes t f = refl
 free-tested (v ∷ busy) minutes t f =
     rw (le-ltb (max t (v .begin)) (min (t + minutes) (v .end)) (omega (arith, f v (List·Memᴰ·head refl))))
     (free-tested busy minutes t (λ u m. f u (List·Memᴰ·tail m)))
+
+-- Where a task can't start, something that is busy is in its way.
+abbrev pub InTheWay : List Interval → (minutes t : ℕ) → Type 0
+InTheWay busy minutes t = (v : Interval) × List·Memᴰ v busy × Overlap (minutes-from t minutes) v
+
+pub met-unless-free : (busy : List Interval) (minutes t : ℕ) → free busy minutes t ≡ false → InTheWay busy minutes t
+unfolding free overlap
+met-unless-free [] minutes t = λ e. absurd (true≢false e)
+met-unless-free (v ∷ busy) minutes t = go (ltb (max t (v .begin)) (min (t + minutes) (v .end))) refl (met-unless-free busy minutes t)
+  where
+    go :
+        (meets : Bool) → ltb (max t (v .begin)) (min (t + minutes) (v .end)) ≡ meets → (free busy minutes t ≡ false → InTheWay busy minutes t)
+        → (not meets && free busy minutes t) ≡ false → InTheWay (v ∷ busy) minutes t
+    go true meets rest e = (v, List·Memᴰ·head refl, ltb-true (max t (v .begin)) (min (t + minutes) (v .end)) meets)
+    go false meets rest e = let (u, m, o) = rest e in (u, List·Memᴰ·tail m, o)
 
 pub latest-end-bounds : (vs : List Interval) {v : Interval} → List·Memᴰ v vs → v .end ≤ latest-end vs
 unfolding latest-end

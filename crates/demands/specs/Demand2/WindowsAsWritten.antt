@@ -3,15 +3,15 @@
 use Prim.Native.Nat.{ℕ, zero, suc, _≤_, _<_}
 use mathlib.Core.Path.{_≡_, refl, sym, ap, subst}
 use mathlib.Core.Bool.{Bool, true, false, cond}
-use mathlib.Core.List.{List, _∷_, List·Memᴰ, List·Memᴰ·head, List·Memᴰ·tail}
+use mathlib.Core.List.{List, _∷_, List·Memᴰ, List·Memᴰ·not-nil, List·Memᴰ·cases-cons, List·Memᴰ·head, List·Memᴰ·tail}
 use mathlib.Core.Logic.{⊎-elim}
 use native.Mathlib.Nat.{eq-or-lt-of-le, le-of-suc-le-suc}
 use native.Mathlib.Omega.{arith}
 use lib.Dec.{eqb}
-use borrow.Author.Tests.{eq-eqb}
+use borrow.Author.Tests.{eqb-true, eq-eqb}
 use Rattle.rules.specs.Fields.{M-processor, M-begin, M-end}
 use Rattle.rules.specs.Reading.{Request}
-use Rattle.rules.specs.Workflow.{window-place, busy-with, window-of, windows-on, workflow}
+use Rattle.rules.specs.Workflow.{Interval, window-place, busy-with, window-of, windows-on, workflow}
 use Rattle.rules.specs.Rows.{Row, taken-up}
 use Rattle.rules.specs.Method.{Name, by-HBCS, by-cheapest, by-HEFT}
 use Rattle.rules.specs.Budget.{in-force, unbound, held-to, workflow-for}
@@ -38,8 +38,28 @@ window-listed s r (suc k) e j l on =
     later true m = List·Memᴰ·tail m
     later false m = m
 
+-- And with nothing else: each of what it is busy with at first is one of the first k windows, and of that processor.
+abbrev pub WindowThere : List ℕ → Request → (k j : ℕ) → Interval → Type 0
+WindowThere s r k j v = (e : ℕ) × (e < k) × (M-processor s (window-place r e) ≡ j) × (v ≡ window-of s (window-place r e))
+
+pub listed-window : (s : List ℕ) (r : Request) (k j : ℕ) {v : Interval} → List·Memᴰ v (windows-on s r k j) → WindowThere s r k j v
+unfolding windows-on busy-with
+listed-window s r zero j = λ m. absurd (List·Memᴰ·not-nil m)
+listed-window s r (suc k) j {v} = go (eqb (M-processor s (window-place r k)) j) refl (listed-window s r k j)
+  where
+    before : WindowThere s r k j v → WindowThere s r (suc k) j v
+    before (e, l, on, is) = (e, omega arith, on, is)
+
+    go :
+        (t : Bool) → eqb (M-processor s (window-place r k)) j ≡ t → (List·Memᴰ v (windows-on s r k j) → WindowThere s r k j v)
+        → List·Memᴰ v (cond t (window-of s (window-place r k) ∷ windows-on s r k j) (windows-on s r k j))
+        → WindowThere s r (suc k) j v
+    go true on rest m =
+        ⊎-elim (λ is. (k, omega arith, eqb-true (M-processor s (window-place r k)) j on, is)) (λ m′. before (rest m′)) (List·Memᴰ·cases-cons m)
+    go false on rest m = before (rest m)
+
 -- Whatever is in force, they are what it is busy with at first.
-windows-held : (M : Name) (s : List ℕ) (r : Request) → workflow-for M s r .busy-at-first ≡ windows-on s r (r .windows)
+pub windows-held : (M : Name) (s : List ℕ) (r : Request) → workflow-for M s r .busy-at-first ≡ windows-on s r (r .windows)
 unfolding workflow held-to unbound in-force
 windows-held by-HBCS s r = refl
 windows-held by-cheapest s r = refl
