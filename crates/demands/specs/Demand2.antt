@@ -32,7 +32,9 @@ pub mod ChoiceAsWritten
 pub mod StartAsWritten
 pub mod CostAsWritten
 pub mod WindowsAsWritten
+pub mod Reasons
 pub mod NothingEarlier
+pub mod WhyNot
 pub mod TwoPlans
 pub mod BudgetRange
 use Prim.Native.Nat.{ℕ, _+_, _-_, _≤_, _<_}

@@ -8,7 +8,7 @@ use native.Mathlib.Omega.{arith}
 use lib.Dec.{eqb}
 use borrow.Author.Tests.{eqb-true, eq-eqb}
 use Rattle.rules.specs.Workflow.{Workflow}
-use Rattle.rules.specs.Start.{arrival, arrived, ready, start-on}
+use Rattle.rules.specs.Start.{arrival, awaited, arrived, ready, start-on}
 use Rattle.rules.specs.Rows.{Row, Placed, row-of, is-placed, busy}
 use Rattle.rules.specs.Method.{Method}
 use Rattle.rules.specs.Placing.{ready-for, start-of, row-on}
@@ -22,12 +22,17 @@ use Rattle.demands.specs.Demand2.Built.{placed-on, Built, at-first, one-
 abbrev pub arrives : Workflow → List Placed → ℕ → ℕ → ℕ
 arrives W rows j e = arrival W (λ p. row-of rows p .processor) (λ p. row-of rows p .finish) j e
 
+-- The data of each edge into a task has arrived once all has.
+pub arrival-at-most :
+    (W : Workflow) (sits ends : ℕ → ℕ) (i j e : ℕ) → e < W .edges → W .to e ≡ i → arrival W sits ends j e ≤ arrived W sits ends i j
+unfolding arrived
+arrival-at-most W sits ends i j e l to-i = rw (eq-eqb (W .to e) i to-i) at (at-most-largest (W .edges) (awaited W sits ends i j) e l)
+
 pub start-not-before-arrival : (W : Workflow) (rows : List Placed) (i j e : ℕ) → e < W .edges → W .to e ≡ i → arrives W rows j e ≤ start-of W rows i j
-unfolding start-of ready-for ready arrived
+unfolding start-of ready-for ready
 start-not-before-arrival W rows i j e l to-i =
-    let inputs : ℕ → ℕ = λ x. cond (eqb (W .to x) i) (arrives W rows j x) 0 in
-    let at-ready = rw (eq-eqb (W .to e) i to-i) at (at-most-largest (W .edges) inputs e l) in
-    omega (arith, at-ready, start-not-before-ready (busy W rows j) (ready-for W rows i j) (W .minutes i j))
+    let in-time = arrival-at-most W (λ p. row-of rows p .processor) (λ p. row-of rows p .finish) i j e l to-i in
+    omega (arith, in-time, start-not-before-ready (busy W rows j) (ready-for W rows i j) (W .minutes i j))
 
 arrives-still :
     (W : Workflow) (p : Placed) (before : List Placed) → is-placed before (p .task) ≡ false → (j e : ℕ) → is-placed before (W .from e) ≡ true

@@ -1,7 +1,7 @@
 -- Nothing can be pulled forward: keep all other rows, windows and the processor, and a task that is given an earlier start overlaps a row or a window of that
 -- processor, or starts before its data is ready. Stated of the rows that the caller holds, minute by minute, with no word of the order of placing: what was placed
 -- before a task is enough to hold it back, and the rows placed later only add to that.
-use Prim.Native.Nat.{ℕ, zero, suc, _+_, _≤_, _<_, max}
+use Prim.Native.Nat.{ℕ, _+_, _≤_, _<_, max}
 use mathlib.Core.Path.{_≡_, refl, sym, ap, subst, _∙_}
 use mathlib.Core.Bool.{Bool, true, false, cond, true≢false}
 use mathlib.Core.List.{List, [], _∷_, List·Memᴰ, List·Memᴰ·cases-cons}
@@ -10,7 +10,6 @@ use native.Mathlib.Omega.{arith}
 use lib.Dec.{eqb}
 use lib.ListN.{length, getD}
 use borrow.Author.Tests.{eqb-true}
-use Rattle.rules.specs.Folds.{largest}
 use Rattle.rules.specs.Fields.{M-processor, M-begin, M-end}
 use Rattle.rules.specs.Reading.{Request}
 use Rattle.rules.specs.Workflow.{Interval, Workflow, busy-with, window-place, window-of, workflow}
@@ -31,7 +30,7 @@ use Rattle.demands.specs.Demand2.Lookup.{new-placed, old-placed, old-row
 use Rattle.demands.specs.Demand2.Arrived.{ready-same}
 use Rattle.demands.specs.Demand2.Steps.{EachStep, AsTheMethod}
 use Rattle.demands.specs.Demand2.PlacedAt.{new-row, both-placed, PlacedAt, placed-at, only-tasks}
-use Rattle.demands.specs.Demand2.WhatIsDue.{MethodsPlan}
+use Rattle.demands.specs.Demand2.Reasons.{largest-of-some}
 use Rattle.demands.specs.Demand2.WindowsAsWritten.{windows-held, listed-window, no-row-in-a-window}
 use Rattle.demands.specs.Demand2.{PlanGot}
 
@@ -151,15 +150,10 @@ module _ (s : List ℕ) (r : Request) (W : Workflow) (n : ℕ) (row : ℕ → Ro
     in-window : (e : ℕ) → MeetsWindow e → StandsAgainst
     beside-row : (k : ℕ) → MeetsRow k → StandsAgainst
 
-overlap-in-common : (t minutes : ℕ) (v : Interval) → Overlap (minutes-from t minutes) v → InCommon t minutes (v .begin) (v .end)
+pub overlap-in-common : (t minutes : ℕ) (v : Interval) → Overlap (minutes-from t minutes) v → InCommon t minutes (v .begin) (v .end)
 overlap-in-common t minutes v o =
     let common = overlap-has-common (minutes-from t minutes) v o in
     (max t (v .begin), common .in-one .0, common .in-one .1, common .in-other .0, common .in-other .1)
-
-largest-of-some : (k : ℕ) (f : ℕ → ℕ) → 0 < largest k f → 1 ≤ k
-unfolding largest
-largest-of-some zero f above = absurd (omega arith)
-largest-of-some (suc k) f above = omega arith
 
 -- Before its data is ready a task waits for an edge, where it need not wait for the clock.
 waits-for-edge :

@@ -19,7 +19,7 @@ use Rattle.laws.specs.Free.{common-overlaps}
 use Rattle.demands.specs.Demand2.{PlanGot}
 
 -- A processor is busy at first with each of its windows.
-window-listed :
+pub window-listed :
     (s : List ℕ) (r : Request) (k e j : ℕ) → e < k → M-processor s (window-place r e) ≡ j
     → List·Memᴰ (window-of s (window-place r e)) (windows-on s r k j)
 unfolding windows-on busy-with
