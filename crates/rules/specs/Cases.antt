@@ -1,7 +1,7 @@
 -- Requests written out record by record, and what is said of each: the forms of `Starred` and `Corners`.
 use Prim.Native.Nat.{ℕ, _/_, _%_}
 use Prim.Native.String.{String}
-use mathlib.Core.Path.{_≡_}
+use mathlib.Core.Path.{_≡_, refl}
 use mathlib.Core.List.{List, [], _∷_, _++_}
 use lib.ListN.{length, drop}
 use Rattle.label.specs.Length.{stands-in, all, is-label, length-up-to, label-length}
@@ -25,8 +25,8 @@ use Rattle.rules.specs.Method.{best, may-be-taken, latest-finish, B, F, 
 use Rattle.rules.specs.Rows.{Row, row-of, is-placed, busy, spent, length-of}
 use Rattle.rules.specs.Placing.{ready-for, start-of, finish-of, RB, RCB, question, row-on, place-task, place-next, place}
 use Rattle.rules.specs.Budget.{in-force, unbound, cost-alone, budget-between, budget-of, held-to}
-use Rattle.rules.specs.Answer.{Answer, refused, refuse, too-late, placed-outcome, checked, later-checks, outcome-of, outcome-by, outcome-read}
-use Rattle.rules.specs.Answer.{outcome-asked, answer-of, answer-asked, answer, written, rows-asked, rows-after}
+use Rattle.rules.specs.Answer.{Outcome, plan, refusal, Answer, refused, refuse, too-late, placed-outcome, checked, later-checks, outcome-of, outcome-by, outcome-read}
+use Rattle.rules.specs.Answer.{outcome-asked, outcome, answer-of, answer-asked, written, rows-asked}
 use Rattle.rules.specs.Multiplied.{multiplied-deadline, multiplied-interval, multiplied}
 use Rattle.rules.specs.Text.{bytes, digits, decimal, line, first-line, row-line, lines, row-lines, text-asked, program-asked}
 use Rattle.rules.specs.Range.{range-of, range, range-line, range-text, range-program}
@@ -95,6 +95,16 @@ abbrev pub planned-case : List ℕ → Answer → List Row → Case
 planned-case input answer rows =
     record { input = input; lent = four-rows; due = record { answer = answer; rows = rows ++ drop (length rows) four-rows } }
 
+-- What comes back of an outcome: its answer, and the rows written. By its cases, so that an outcome is computed once for both.
+unfoldable pub back-of : Outcome → List Row → Back
+back-of (plan W rows) lent = record { answer = answer-of (plan W rows); rows = written (plan W rows) lent }
+back-of (refusal number place) lent = record { answer = answer-of (refusal number place); rows = written (refusal number place) lent }
+
+pub back-is : (o : Outcome) (lent : List Row) → back-of o lent ≡ record { answer = answer-of o; rows = written o lent }
+unfolding back-of
+back-is (plan W rows) lent = refl
+back-is (refusal number place) lent = refl
+
 -- What the rules give. To unfold this is to unfold every definition of the rules, so that a case is computed.
 unfoldable pub given : Case → Back
 unfolding
@@ -117,11 +127,11 @@ unfolding
     row-of is-placed busy ready-for start-of finish-of spent length-of RB RCB question row-on place-task place-next place
     in-force unbound cost-alone budget-between budget-of held-to
     refuse too-late placed-outcome checked later-checks outcome-of outcome-by outcome-read outcome-asked
-    answer-of answer-asked written rows-asked
+    answer-of answer-asked written rows-asked back-of
     bytes digits decimal line first-line row-line lines row-lines text-asked program-asked
     range-of range range-line range-text range-program
     last-to-arrive earlier earliest-met meets-row lowest-met window-or why-placed why-of why-not why-text why-program
-given c = record { answer = answer (c .input) (length (c .lent)); rows = rows-after (c .input) (c .lent) }
+given c = back-of (outcome (c .input) (length (c .lent))) (c .lent)
 
 -- In every case of a list the rules give what is due.
 abbrev pub All-given : List Case → Type 0
@@ -131,7 +141,13 @@ All-given (c ∷ cases) = (given c ≡ c .due) × All-given cases
 -- What they give by the method that is asked for.
 unfoldable pub given-by : Name → Case → Back
 unfolding given
-given-by M c = record { answer = answer-asked M (c .input) (length (c .lent)); rows = rows-asked M (c .input) (c .lent) }
+given-by M c = back-of (outcome-asked M (c .input) (length (c .lent))) (c .lent)
+
+-- That is the answer and the rows after the call, as a caller gets them.
+pub given-is : (M : Name) (c : Case)
+    → given-by M c ≡ record { answer = answer-asked M (c .input) (length (c .lent)); rows = rows-asked M (c .input) (c .lent) }
+unfolding given-by answer-asked rows-asked
+given-is M c = back-is (outcome-asked M (c .input) (length (c .lent))) (c .lent)
 
 abbrev pub All-given-by : Name → List Case → Type 0
 All-given-by M [] = Unit {0}

@@ -11,6 +11,7 @@ use Rattle.rules.specs.Answer.{planned, refused, answer}
 use Rattle.rules.specs.Buffers.{Buffers, rows-lent, row-in, column-after, buffers-written, buffers-asked, buffers-after}
 use Rattle.rules.specs.Text.{bytes, text-asked}
 use Rattle.rules.specs.Range.{between, no-range, range, range-text}
+use Rattle.rules.specs.Why.{late-data, in-window, beside-row, own-start, no-task, no-plan, why-not, why-text, why-program}
 use Rattle.rules.specs.Cases.{H-record, D-record, K-record, P-record, Q-record, M-record, T-record, W-record, E-record, row, four-rows, Case}
 use Rattle.rules.specs.Cases.{refused-case, planned-case, given, All-given, given-by, All-given-by, answer-multiplied, kinds-in, kinds}
 use Rattle.rules.specs.Starred.{sample, S}
@@ -75,7 +76,7 @@ waits tasks rest =
     H-record tasks 2 0 ++ P-record 0 0 ++ P-record 1 0 ++ beside 0 "one     " 2 20 ++ beside 1 "two     " 20 4 ++ rest ++ bytes "Z"
 
 -- A task of 5 minutes, and this transfer before task 1: in the gap before the first row they are just as long, or one minute short.
-gap-of : ℕ → List ℕ
+pub gap-of : ℕ → List ℕ
 gap-of transfer = waits 3 (beside 2 "three   " 15 5 ++ E-record 0 1 transfer)
 
 -- Behind a row of these minutes, which begins at 0, and before task 1: a gap between two rows.
@@ -113,12 +114,12 @@ past-two-bytes : List ℕ
 past-two-bytes = bytes "M" ++ (0 ∷ 0 ∷ 0 ∷ 0 ∷ 0 ∷ 5 ∷ 0 ∷ 1 ∷ 0 ∷ [])
 
 -- Two tasks of 3 minutes on one processor that is down from this minute on, up to 8.
-down-from : ℕ → List ℕ
+pub down-from : ℕ → List ℕ
 down-from begin =
     H-record 2 1 50 ++ P-record 0 1 ++ M-record 0 begin 8 ++ T-record 0 "one     " ++ W-record 0 0 3 ++ T-record 1 "two     " ++ W-record 1 0 3 ++ bytes "Z"
 
 -- The cheaper of two processors, which are down so.
-cheaper-down : List ℕ → List ℕ
+pub cheaper-down : List ℕ → List ℕ
 cheaper-down windows = cheaper-of (P-record 0 2 ++ P-record 1 1 ++ windows)
 
 -- A task on one processor at price 1; tasks there, and their edges.
@@ -133,7 +134,7 @@ all-markers : List ℕ
 all-markers = chain 2 (alone 0 "one     " 0 ++ alone 1 "two     " 0 ++ E-record 1 0 0)
 
 -- Task 0 waits for marker 2, and task 1 for none; the R of all three is 5. So task 1 comes first, then the marker.
-marker-between : List ℕ
+pub marker-between : List ℕ
 marker-between = chain 3 (alone 0 "one     " 5 ++ alone 1 "two     " 5 ++ alone 2 "marker  " 0 ++ E-record 2 0 0)
 
 -- Marker 0 waits for marker 1, which waits for task 2; the R of both is 0.
@@ -150,7 +151,7 @@ marker-down : List ℕ
 marker-down = H-record 2 1 50 ++ P-record 0 1 ++ M-record 0 3 9 ++ alone 0 "one     " 3 ++ alone 1 "marker  " 0 ++ E-record 0 1 0 ++ bytes "Z"
 
 -- A marker on the second processor, 19 minutes on the first. Its data is there at minute 4, while task 1 runs there.
-marker-in-row : List ℕ
+pub marker-in-row : List ℕ
 marker-in-row = waits 3 (beside 2 "marker  " 19 0 ++ E-record 0 1 1 ++ E-record 0 2 2)
 
 -- Two processors for nothing, and task 0 on the first: a marker after it has its data on the second at minute 5.
@@ -159,7 +160,7 @@ marker-after deadline rest tasks =
     H-record tasks 2 0 ++ deadline ++ P-record 0 0 ++ P-record 1 0 ++ beside 0 "one     " 2 20 ++ beside 1 "marker  " 20 0 ++ rest ++ E-record 0 1 3 ++ bytes "Z"
 
 -- Marker 0 waits for task 1 and for marker 2, which waits for data from two processors; the R of both markers is 0.
-marker-for-two : List ℕ
+pub marker-for-two : List ℕ
 marker-for-two =
     H-record 4 2 0
     ++ P-record 0 0
@@ -581,3 +582,59 @@ pub in-buffers :
     × (answer (two-tasks []) (rows-lent (lent-buffers (88 ∷ []))) ≡ refused 7 2)
 unfolding given two-tasks rows-lent row-in column-after buffers-written buffers-asked
 in-buffers = (refl, refl, refl, refl)
+
+-- Task 3 does not fit into the gap before task 2, which waits for its data; task 0 does, and is placed last.
+pub placed-last : List ℕ
+placed-last =
+    H-record 4 2 0
+    ++ P-record 0 0
+    ++ P-record 1 0
+    ++ beside 0 "late    " 18 4
+    ++ beside 1 "one     " 2 20
+    ++ beside 2 "two     " 20 4
+    ++ beside 3 "three   " 17 6
+    ++ E-record 1 2 3
+    ++ bytes "Z"
+
+-- Task 2 waits for task 0 and for the marker after it, whose data arrive at once.
+pub two-arrive : List ℕ
+two-arrive = chain 3 (alone 0 "one     " 5 ++ alone 1 "marker  " 0 ++ alone 2 "two     " 3 ++ E-record 0 1 0 ++ E-record 0 2 0 ++ E-record 1 2 0)
+
+-- Why a task does not start sooner: data, the last to arrive; windows, the earliest; rows, the lowest.
+pub whys :
+    (why-not (S 28) 1 0 ≡ late-data 0 6)
+    × (why-not (S 28) 1 5 ≡ late-data 0 6)
+    × (why-not (S 28) 1 6 ≡ own-start 6)
+    × (why-not (S 28) 1 7 ≡ own-start 6)
+    × (why-not (S 28) 2 3 ≡ late-data 0 4)
+    × (why-not (S 28) 3 0 ≡ no-task 3)
+    × (why-not (S 23) 1 0 ≡ no-plan 9 24)
+    × (why-not two-arrive 2 4 ≡ late-data 0 5)
+    × (why-not marker-for-two 0 6 ≡ late-data 2 7)
+    × (why-not marker-for-two 2 5 ≡ late-data 3 7)
+    × (why-not marker-in-row 2 3 ≡ late-data 0 4)
+    × (why-not (down (M-record 0 0 4 ++ M-record 0 9 12) 8) 0 3 ≡ in-window 0 4)
+    × (why-not (down (M-record 0 0 4 ++ M-record 0 9 12) 8) 0 4 ≡ in-window 9 12)
+    × (why-not (down-from 3) 1 2 ≡ in-window 3 8)
+    × (why-not (down-from 3) 1 0 ≡ beside-row 0 0 3)
+    × (why-not (cheaper-down (M-record 0 9 12 ++ M-record 1 5 8)) 0 4 ≡ in-window 5 8)
+    × (why-not placed-last 3 0 ≡ beside-row 0 0 4)
+    × (why-not placed-last 3 4 ≡ beside-row 2 5 9)
+    × (why-not placed-last 3 9 ≡ own-start 9)
+    × (why-not marker-between 0 3 ≡ beside-row 1 0 5)
+    × (why-not (gap-of 2) 2 0 ≡ beside-row 1 4 8)
+unfolding
+    given placed-last two-arrive beside chain alone marker-for-two marker-in-row marker-between waits gap-of down down-from cheaper-of cheaper-down sample S
+whys =
+    (refl, refl, refl, refl, refl, refl, refl, refl, refl, refl, refl, refl, refl, refl, refl, refl, refl, refl, refl, refl, refl)
+
+-- What the program for that writes.
+pub printed-whys :
+    (why-program (S 28) 1 0 ≡ bytes "data 0 6\nIts data from task 0 arrives at minute 6.\n")
+    × (why-text (in-window 5 12) ≡ bytes "window 5 12\nIts processor is down from minute 5 up to minute 12.\n")
+    × (why-text (beside-row 3 5 12) ≡ bytes "row 3 5 12\nIts processor runs task 3 from minute 5 up to minute 12.\n")
+    × (why-text (own-start 6) ≡ bytes "own 6\nIn the plan it starts at minute 6, so this is not sooner.\n")
+    × (why-text (no-task 3) ≡ bytes "none 3\nThere is no such task; the request has 3, numbered from 0.\n")
+    × (why-text (no-plan 9 24) ≡ bytes "no 9 24\nThe request has no plan, so no task has a start.\n")
+unfolding given sample S
+printed-whys = (refl, refl, refl, refl, refl, refl)
