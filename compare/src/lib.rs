@@ -1,7 +1,8 @@
 //! An independent program for the rules, written from documents 01 and 02
 //! alone and used to compare answers with. It keeps everything in plain tables:
 //! [`read`] decodes a request, [`schedule`] plans it, [`text`] prints it; [`Method`]
-//! names the two other plans that can be asked for alone.
+//! names the two other plans that can be asked for alone; [`why_not`] says why a task
+//! does not start sooner.
 
 pub mod build;
 mod plan;
@@ -10,10 +11,12 @@ pub mod random;
 mod request;
 pub mod samples;
 pub mod shapes;
+mod why;
 
 pub use plan::{budget, order, ranks, schedule, schedule_by, Method};
-pub use print::{range_text, text, text_by};
+pub use print::{range_text, text, text_by, why_text};
 pub use request::{read, Edge, Refusal, Window, Workflow, MOST_BYTES};
+pub use why::{why_not, Why};
 
 /// One plan row; row i speaks of task i.
 #[derive(Clone, Copy, Debug, Default, PartialEq, Eq)]

@@ -1,10 +1,9 @@
 //! The cases of document 01 and of A4, A5 and A9 of document 02, and both edges of
-//! each range; those of A7 are in `range.rs`. Of document 01's cases one is no longer as it stands there: 0 minutes,
+//! each range; those of A7 are in `range.rs`, those of A8 in `why.rs`. Of document 01's cases one is no longer as it stands there: 0 minutes,
 //! which it refuses with 4, pass since A9. Offsets in S(28): H 0, P 7 10, T W W
 //! 13 23 28, 33 43 48, 53 63 68, E 73 78, Z 83, end 84.
 
-use std::io::Write;
-use std::process::{Command, Stdio};
+mod common;
 
 use compare::build::{d, e, h, k, m, p, q, sample, t, w, z, Draft};
 use compare::{label, order, plan, ranks, read, samples, text};
@@ -1053,14 +1052,7 @@ fn a_refusal_keeps_every_row() {
 // ---- The program ----
 
 fn run(input: &[u8]) -> Vec<u8> {
-    let mut program = Command::new(env!("CARGO_BIN_EXE_compare"))
-        .stdin(Stdio::piped())
-        .stdout(Stdio::piped())
-        .spawn()
-        .unwrap();
-    // The program may stop reading before the end.
-    let _ = program.stdin.take().unwrap().write_all(input);
-    let output = program.wait_with_output().unwrap();
+    let output = common::run(&[], input);
     assert!(output.status.success());
     output.stdout
 }

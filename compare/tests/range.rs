@@ -3,9 +3,9 @@
 //! to be worked out by hand, but for the published one. Offsets in S with a `K`: H 0,
 //! K 7, P 10 13, T 16, end 87.
 
-use std::io::Write;
-use std::process::{Command, Output, Stdio};
+mod common;
 
+use common::run;
 use compare::build::{d, h, k, p, q, sample, t, Draft};
 use compare::{budget, label, plan, plan_by, range, range_text, read, samples, text, text_by};
 use compare::{Answer, Costs, Method, Refusal, Row};
@@ -531,19 +531,6 @@ fn between_the_ends_floor_stands_outside() {
 
 // ---- The program ----
 
-fn run(words: &[&str], input: &[u8]) -> Output {
-    let mut program = Command::new(env!("CARGO_BIN_EXE_compare"))
-        .args(words)
-        .stdin(Stdio::piped())
-        .stdout(Stdio::piped())
-        .stderr(Stdio::piped())
-        .spawn()
-        .unwrap();
-    // The program may stop reading before the end, or not read at all.
-    let _ = program.stdin.take().unwrap().write_all(input);
-    program.wait_with_output().unwrap()
-}
-
 #[test]
 fn the_program_prints_what_is_asked() {
     let mut cyclic = sample(28);
@@ -572,7 +559,10 @@ fn the_program_prints_what_is_asked() {
 
 #[test]
 fn a_wrong_call_of_the_program() {
-    for words in [&["--best"][..], &["--cheapest", "--heft"], &["cheapest"], &[""]] {
+    let calls: [&[&str]; 4] = [&["--best"], &["--cheapest", "--heft"], &["cheapest"], &[""]];
+    let why: [&[&str]; 5] = [&[], &["1"], &["1", "0", "0"], &["left", "0"], &["1", "-1"]];
+    let why = why.map(|words| [&["--why"], words].concat());
+    for words in calls.into_iter().chain(why.iter().map(|words| &words[..])) {
         let output = run(words, &sample(28).bytes());
         assert_eq!(output.status.code(), Some(2), "{words:?}");
         assert!(output.stdout.is_empty() && !output.stderr.is_empty(), "{words:?}");
