@@ -9,6 +9,7 @@
     zabgurin_print           11,096 bytes
     zabgurin_print_cheapest  11,096 bytes
     zabgurin_print_heft      11,096 bytes
+    zabgurin_why              9,999 bytes
     zabgurin_plan             8,824 bytes
     zabgurin_cheapest         8,824 bytes
     zabgurin_heft             8,824 bytes
@@ -93,6 +94,28 @@ struct zabgurin_costs {
     uint64_t heft;
 };
 struct zabgurin_costs zabgurin_range(const uint8_t *request, size_t request_len);
+
+/* Why a task does not start at a minute, by the plan of zabgurin_plan with 64 rows lent. For a request that has no plan number is that of the refusal, with its place, and all
+   else is 0. Else number and place are 0, and reason is one of these; what stands in its line as - is 0:
+
+    reason                                                  task                begin                 end
+    1   data arrives on its processor after `start`         from which task     when it arrives       -
+    2   it would overlap a window of its processor          -                   the window's begin    the window's end
+    3   it would overlap the row of a task there            which task          its start             its finish
+    4   `start` is not below its own start                  -                   its own start         -
+    5   the request has no such task                        how many it has     -                     -
+
+   Of the first three it is the first that is so, and one of them always is: all other rows, the windows and the processor kept, no task can start sooner. Of data it is what arrives
+   last, and of equals what comes from the lowest task; of windows the earliest; of rows that of the lowest task. */
+struct zabgurin_reason {
+    uint64_t number;
+    uint64_t place;
+    uint64_t reason;
+    uint64_t task;
+    uint64_t begin;
+    uint64_t end;
+};
+struct zabgurin_reason zabgurin_why(const uint8_t *request, size_t request_len, size_t task, uint64_t start);
 
 /* Prints the plan of a request as text, with 64 rows lent: `plan`, tasks, length, cost and budget left, then a line for each task with its label, processor, start,
    finish and cost; or `no`, number and place. The answer is the number of the text's bytes. Where text_len is at least that, they stand at the front of `text` and the

@@ -31,7 +31,7 @@ int pthread_attr_setstack(union attributes *attributes, void *stack, word length
 int pthread_create(word *thread, const union attributes *attributes, void *(*run)(void *), void *argument);
 int pthread_join(word thread, void **result);
 
-enum { LISTED, LABEL_LEN, READ, LABEL, PLAN, CHEAPEST, HEFT, PRINT, PRINT_CHEAPEST, PRINT_HEFT, RANGE, NOTHING, DEEPEST, TAKEN };
+enum { LISTED, LABEL_LEN, READ, LABEL, PLAN, CHEAPEST, HEFT, PRINT, PRINT_CHEAPEST, PRINT_HEFT, RANGE, START, WHY, NOTHING, DEEPEST, TAKEN };
 // The planners and the printers have the same arguments. Which of them a question asks, if one.
 typedef struct zabgurin_answer planner(const byte *, word, word *, word, word *, word, word *, word, word *, word);
 typedef word printer(const byte *, word, byte *, word);
@@ -210,6 +210,8 @@ static void nothing(struct buffer *answers) {
     }
     struct zabgurin_costs costs = zabgurin_range(0, 0);
     put(answers, &costs, sizeof costs);
+    struct zabgurin_reason reason = zabgurin_why(0, 0, 0, 0);
+    put(answers, &reason, sizeof reason);
     struct zabgurin_reading reading = zabgurin_read(0, 0);
     put(answers, &reading, sizeof reading);
     struct zabgurin_part part = zabgurin_label(0, 0, 0);
@@ -260,7 +262,8 @@ __asm__(".pushsection .text\n"
 #define MEASURED_AS(type, name) (function = (void (*)(void))(name), (type)measured)
 #define MEASURED(name) MEASURED_AS(__typeof__(&name), name)
 
-// Makes a call of the kind that a question has, and gives the first word of its answer; a label's length. A plan has four buffers of the same length.
+// Makes a call of the kind that a question has, and gives the first word of its answer; a label's length. A plan has four buffers of the same length. For
+// WHY the task is in the lowest sixteen bits, and the start above it.
 static word call(const byte *slice, word length, word kind, word argument) {
     if (kind == LISTED)
         return MEASURED(zabgurin_listed)(argument);
@@ -272,6 +275,8 @@ static word call(const byte *slice, word length, word kind, word argument) {
         return MEASURED(zabgurin_label)(slice, length, argument).length;
     if (kind == RANGE)
         return MEASURED(zabgurin_range)(slice, length).number;
+    if (kind == WHY)
+        return MEASURED(zabgurin_why)(slice, length, argument & 0xffff, argument >> 16).number;
     if (printer_of(kind))
         return MEASURED_AS(printer *, printer_of(kind))(slice, length, lend_room(argument), argument);
     if (!planner_of(kind))
@@ -302,8 +307,9 @@ static void taken(struct buffer *answers, const byte *slice, word length, word k
     put(answers, &first, sizeof first);
 }
 
-// Answers one question about a slice that stands in its place.
+// Answers one question about a slice that stands in its place. START has no answer: it says the start that WHY is asked with from there on.
 static void answer(struct buffer *answers, const byte *slice, word length, word kind, word argument) {
+    static word start;
     if (kind == LISTED) {
         word listed = zabgurin_listed(argument);
         put(answers, &listed, sizeof listed);
@@ -323,6 +329,11 @@ static void answer(struct buffer *answers, const byte *slice, word length, word 
     } else if (kind == RANGE) {
         struct zabgurin_costs costs = zabgurin_range(slice, length);
         put(answers, &costs, sizeof costs);
+    } else if (kind == START) {
+        start = argument;
+    } else if (kind == WHY) {
+        struct zabgurin_reason reason = zabgurin_why(slice, length, argument, start);
+        put(answers, &reason, sizeof reason);
     } else if (kind == NOTHING) {
         nothing(answers);
     } else if (kind == DEEPEST) {

@@ -252,6 +252,45 @@ fn planned(request: &[u8]) -> Option<Vec<Row>> {
     }
 }
 
+/// Tasks and starts to ask of: each task of the plan, if there is one, at starts that [`starts_of`] gives, and tasks that
+/// the request does not have.
+pub fn starts(request: &[u8]) -> Vec<(usize, u64)> {
+    let rows = planned(request).unwrap_or_default();
+    let mut starts = Vec::new();
+    if let Some(workflow) = read(request).ok().filter(|_| !rows.is_empty()) {
+        for task in 0..rows.len() {
+            let of_task = starts_of(&workflow, &rows, task);
+            starts.extend(of_task.into_iter().map(|start| (task, start)));
+        }
+    }
+    let n = rows.len();
+    let none = [n, n + 1, 64, 255, 256, 1 << 32, usize::MAX];
+    starts.extend(none.into_iter().flat_map(|task| [0, 6, u64::MAX].map(|start| (task, start))));
+    starts
+}
+
+/// Of a task the ends of all starts, its own, and each around which another thing may stand against it: data arrives, or
+/// the task would begin or end beside a window or a row of its processor.
+fn starts_of(workflow: &Workflow, rows: &[Row], task: usize) -> Vec<u64> {
+    let own = rows[task];
+    let there = workflow.windows.iter().filter(|window| window.processor as u64 == own.processor);
+    let down = there.map(|window| [window.begin.into(), window.end.into()]);
+    let others = rows.iter().filter(|row| row.processor == own.processor);
+    let busy = down.chain(others.map(|row| [row.start, row.finish]));
+    let minutes = own.finish - own.start;
+    let beside = busy.flat_map(|[begin, end]| [begin, end, begin.saturating_sub(minutes)]);
+    let entering = workflow.edges.iter().filter(|edge| edge.to == task);
+    let arrivals = entering.flat_map(|edge| {
+        [0, edge.transfer].map(|transfer| rows[edge.from].finish + u64::from(transfer))
+    });
+    let around = beside.chain(arrivals).flat_map(|at| [at.saturating_sub(1), at, at + 1]);
+    let mut starts: Vec<u64> = around.filter(|&start| start <= own.start + 1).collect();
+    starts.extend([0, own.start, u64::MAX]);
+    starts.sort();
+    starts.dedup();
+    starts
+}
+
 /// Whether the request has a plan in which some task runs elsewhere, or at other minutes, than it would in the changed
 /// workflow with no deadline.
 fn turned(request: &[u8], change: impl Fn(&mut Workflow)) -> bool {

@@ -61,6 +61,21 @@ pub struct Costs {
     pub heft: u64,
 }
 
+/// Why a task does not start at a minute.
+#[derive(Clone, Copy, Debug, PartialEq, Eq)]
+pub enum Why {
+    /// Data from this task arrives on its processor later than that, at this minute. Of several the one that arrives last, of equals the lowest.
+    LateData { from: u64, minute: u64 },
+    /// It would overlap this window of its processor, the earliest of several.
+    InWindow { begin: u64, end: u64 },
+    /// It would overlap the row of this task on its processor, the lowest of several.
+    BesideRow { task: u64, begin: u64, end: u64 },
+    /// That is not sooner than its own start, which is this.
+    OwnStart { start: u64 },
+    /// The request has no such task, but so many.
+    NoTask { tasks: u64 },
+}
+
 /// Plans a request.
 pub fn plan(request: &[u8]) -> Result<Plan, Refusal> {
     planned(proved::zabgurin_plan, request)
@@ -120,6 +135,24 @@ pub fn range(request: &[u8]) -> Result<Costs, Refusal> {
         Ok(Costs { cheapest, heft })
     } else {
         Err(Refusal { number, place })
+    }
+}
+
+/// Why a task does not start at a minute, by the plan of [`plan`]; or the refusal of a request that has none. Of data, windows and rows it is the first that stands against it,
+/// and one of them does against every start that is sooner than the task's own.
+pub fn why(request: &[u8], task: usize, start: u64) -> Result<Why, Refusal> {
+    let mut told = proved::Reason::default();
+    // SAFETY: the pointer and the length are one slice's, which is only read, and only during the call; what is told is written.
+    unsafe { proved::zabgurin_why(&mut told, request.as_ptr(), request.len(), task, start) };
+    let proved::Reason { number, place, reason, task, begin, end } = told;
+    match (number, reason) {
+        (0, 1) => Ok(Why::LateData { from: task, minute: begin }),
+        (0, 2) => Ok(Why::InWindow { begin, end }),
+        (0, 3) => Ok(Why::BesideRow { task, begin, end }),
+        (0, 4) => Ok(Why::OwnStart { start: begin }),
+        (0, 5) => Ok(Why::NoTask { tasks: task }),
+        (0, other) => unreachable!("{other} is no reason"),
+        _ => Err(Refusal { number, place }),
     }
 }
 
@@ -312,6 +345,17 @@ mod proved {
         pub heft: u64,
     }
 
+    #[repr(C)]
+    #[derive(Default)]
+    pub struct Reason {
+        pub number: u64,
+        pub place: u64,
+        pub reason: u64,
+        pub task: u64,
+        pub begin: u64,
+        pub end: u64,
+    }
+
     pub type Planner = unsafe extern "C" fn(
         answer: *mut Answer,
         request: *const u8,
@@ -392,6 +436,13 @@ mod proved {
             text_len: usize,
         ) -> usize;
         pub fn zabgurin_range(costs: *mut Costs, request: *const u8, request_len: usize);
+        pub fn zabgurin_why(
+            told: *mut Reason,
+            request: *const u8,
+            request_len: usize,
+            task: usize,
+            start: u64,
+        );
         pub fn zabgurin_label(request: *const u8, request_len: usize, task: usize) -> Part;
         pub fn zabgurin_read(reading: *mut Reading, request: *const u8, request_len: usize);
         pub fn zabgurin_listed(byte: u8) -> bool;

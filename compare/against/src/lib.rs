@@ -1,6 +1,6 @@
 //! The functions that the proved code exports, asked through the driver, and the same label checks in plain Rust to
 //! hold them against.
-use compare::Method;
+use compare::{Method, Why};
 use std::io::{self, Read, Write};
 use std::process::{Child, Command, Stdio};
 
@@ -70,6 +70,38 @@ impl From<Result<compare::Costs, compare::Refusal>> for Costs {
     }
 }
 
+/// What stands against a start of a task, or the refusal's number and place. Whatever does not belong to the answer is 0.
+#[repr(C)]
+#[derive(Clone, Copy, Debug, Default, PartialEq, Eq)]
+pub struct Reason {
+    pub number: u64,
+    pub place: u64,
+    pub reason: u64,
+    pub task: u64,
+    pub begin: u64,
+    pub end: u64,
+}
+
+impl From<Result<Why, compare::Refusal>> for Reason {
+    fn from(told: Result<Why, compare::Refusal>) -> Reason {
+        let reason =
+            |reason, task, begin, end| Reason { number: 0, place: 0, reason, task, begin, end };
+        match told {
+            Ok(Why::Data { from, minute }) => reason(1, from, minute, 0),
+            Ok(Why::Window { begin, end }) => reason(2, 0, begin, end),
+            Ok(Why::Row { task, start, finish }) => reason(3, task, start, finish),
+            Ok(Why::Own { start }) => reason(4, 0, start, 0),
+            Ok(Why::NoTask { tasks }) => reason(5, tasks, 0, 0),
+            Err(compare::Refusal { number, place }) => {
+                Reason { number, place, ..Reason::default() }
+            }
+        }
+    }
+}
+
+/// A request, with tasks and starts to ask of.
+pub type Starts<'a> = (&'a [u8], Vec<(usize, u64)>);
+
 /// What a plan can be asked by.
 pub const METHODS: [Method; 3] = [Method::Hbcs, Method::Cheapest, Method::Heft];
 
@@ -96,9 +128,11 @@ const LABEL: u64 = 3;
 const PLAN: u64 = 4;
 const PRINT: u64 = 7;
 const RANGE: u64 = 10;
-const NOTHING: u64 = 11;
-const DEEPEST: u64 = 12;
-const TAKEN: u64 = 13;
+const START: u64 = 11;
+const WHY: u64 = 12;
+const NOTHING: u64 = 13;
+const DEEPEST: u64 = 14;
+const TAKEN: u64 = 15;
 
 /// How far behind the first planner, or printer, the one of this method is.
 fn behind(method: Method) -> u64 {
@@ -110,7 +144,7 @@ fn behind(method: Method) -> u64 {
 }
 
 /// A call of the library whose stack is measured: with a byte, a place, a task; by a method, so many rows in each
-/// buffer, so much room for the text.
+/// buffer, so much room for the text; with a task below 65,536 and a start.
 #[derive(Clone, Copy, Debug, PartialEq, Eq)]
 pub enum Call {
     Listed(u8),
@@ -120,6 +154,7 @@ pub enum Call {
     Plan(Method, usize),
     Print(Method, usize),
     Range,
+    Why(usize, usize),
 }
 
 impl Call {
@@ -137,6 +172,7 @@ impl Call {
             Call::Print(Method::Cheapest, _) => "zabgurin_print_cheapest",
             Call::Print(Method::Heft, _) => "zabgurin_print_heft",
             Call::Range => "zabgurin_range",
+            Call::Why(..) => "zabgurin_why",
         }
     }
 
@@ -149,6 +185,7 @@ impl Call {
             Call::Plan(method, rows) => (PLAN + behind(method), rows),
             Call::Print(method, room) => (PRINT + behind(method), room),
             Call::Range => (RANGE, 0),
+            Call::Why(task, start) => (WHY, task | start << 16),
         };
         (TAKEN, kind | (argument as u64) << 8)
     }
@@ -253,12 +290,28 @@ impl Driver {
         requests.iter().map(|_| answers.costs()).collect()
     }
 
-    /// What comes back for no request and no buffers, all of them null: the answers by each method, the range, the
-    /// reading, where task 0's label is and how long, and the lengths of the texts and of a label at 0.
-    pub fn nothing(&mut self) -> ([Answer; 3], Costs, Reading, [usize; 6]) {
+    /// For requests and some tasks and starts of each: why the task does not start then.
+    pub fn why(&mut self, requests: &[Starts]) -> Vec<Vec<Reason>> {
+        let questions = |&(task, start): &(usize, u64)| [(START, start), (WHY, task as u64)];
+        let batch: Vec<_> = requests
+            .iter()
+            .map(|(request, starts)| (*request, starts.iter().flat_map(questions).collect()))
+            .collect();
+        let mut answers = self.ask(&batch);
+        requests
+            .iter()
+            .map(|(_, starts)| starts.iter().map(|_| answers.reason()).collect())
+            .collect()
+    }
+
+    /// What comes back for no request and no buffers, all of them null: the answers by each method, the range, why task 0
+    /// does not start at 0, the reading, where task 0's label is and how long, and the lengths of the texts and of a label
+    /// at 0.
+    pub fn nothing(&mut self) -> ([Answer; 3], Costs, Reason, Reading, [usize; 6]) {
         let mut answers = self.ask(&[(&[], vec![(NOTHING, 0)])]);
         let by_method = METHODS.map(|_| answers.answer());
-        (by_method, answers.costs(), answers.reading(), [0; 6].map(|_| answers.size()))
+        let (range, reason) = (answers.costs(), answers.reason());
+        (by_method, range, reason, answers.reading(), [0; 6].map(|_| answers.size()))
     }
 
     /// For a request and calls with it: how many bytes of stack each call takes, and the first word of its answer. The
@@ -357,6 +410,17 @@ impl Answers {
 
     fn costs(&mut self) -> Costs {
         Costs { number: self.word(), place: self.word(), cheapest: self.word(), heft: self.word() }
+    }
+
+    fn reason(&mut self) -> Reason {
+        Reason {
+            number: self.word(),
+            place: self.word(),
+            reason: self.word(),
+            task: self.word(),
+            begin: self.word(),
+            end: self.word(),
+        }
     }
 
     fn reading(&mut self) -> Reading {

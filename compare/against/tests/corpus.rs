@@ -1,5 +1,6 @@
 //! The requests that fuzzing found worth keeping, in `compare/corpus`, answered again.
 use against::{columns_before, Driver, METHODS};
+use compare::shapes::starts;
 use compare::{Method, Row};
 use std::fs;
 
@@ -37,5 +38,12 @@ fn the_corpus_is_answered_alike() {
     for request in &requests {
         let range = driver.range(&[request]).remove(0);
         assert_eq!(range, compare::range(request).into(), "{request:?}");
+        let starts = starts(request);
+        let some: Vec<_> = starts.iter().step_by(1 + starts.len() / 100).copied().collect();
+        let reasons = driver.why(&[(request, some.clone())]).remove(0);
+        for ((task, start), reason) in some.into_iter().zip(reasons) {
+            let theirs = compare::why_not(request, task, start).into();
+            assert_eq!(reason, theirs, "task {task} at {start} of {request:?}");
+        }
     }
 }

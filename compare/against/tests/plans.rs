@@ -372,9 +372,10 @@ fn texts() {
 
 #[test]
 fn null_slices_are_empty_ones() {
-    let (answers, range, reading, lengths) = Driver::start().nothing();
+    let (answers, range, reason, reading, lengths) = Driver::start().nothing();
     assert_eq!(answers, [against::Answer { number: 1, ..Default::default() }; 3]);
     assert_eq!(range, against::Costs { number: 1, ..Default::default() });
+    assert_eq!(reason, against::Reason { number: 1, ..Default::default() });
     assert_eq!(reading, against::Reading { number: 1, ..Default::default() });
     let text = b"no 1 0\n".len();
     assert_eq!(lengths, [0, 0, text, text, text, 0]);

@@ -126,6 +126,8 @@ fn measure() -> Measured {
     calls.extend(METHODS.map(|method| Call::Plan(method, MOST_TASKS)));
     calls.extend(METHODS.map(|method| Call::Print(method, MOST_TEXT)));
     calls.extend([Call::Range, Call::Read, label]);
+    // Of a start at 0, of one that is later than most data and windows, and of one that no task has.
+    calls.extend([0, 21_000, 1 << 30].map(|start| Call::Why(MOST_TASKS - 1, start)));
     let (mut met, mut met_with_512_edges) = (BTreeSet::new(), BTreeSet::new());
     let mut random = Random(0x57ac_5eed_0000_0001);
     for (k, draft) in largest(&mut random).iter().enumerate() {

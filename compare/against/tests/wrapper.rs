@@ -1,15 +1,31 @@
-//! The Rust wrapper against the independent program: plans, texts, labels and readings of good and damaged requests.
+//! The Rust wrapper against the independent program: plans, texts, what is told of starts, labels and readings of good and
+//! damaged requests.
 use compare::random::{sized, windows_of, Damage, Random};
-use compare::shapes::{shape, shaped, SHAPES};
+use compare::shapes::{shape, shaped, starts, SHAPES};
 use compare::{Answer, Method, Row, MOST_BYTES};
 use std::fs;
-use zabgurin::{Costs, Refusal, Summary, MOST_REQUEST, MOST_TASKS, MOST_TEXT};
+use zabgurin::{Costs, Refusal, Summary, Why, MOST_REQUEST, MOST_TASKS, MOST_TEXT};
 
 /// What the independent program says by this method, in the wrapper's words.
 fn plan(method: Method, request: &[u8], rows: &mut [Row]) -> Result<Summary, Refusal> {
     match compare::plan_by(method, request, rows) {
         Answer::Planned { n, length, cost, left } => Ok(Summary { tasks: n, length, cost, left }),
         Answer::Refused { number, place } => Err(Refusal { number, place }),
+    }
+}
+
+/// What it says of a start, in the wrapper's words.
+fn why(request: &[u8], task: usize, start: u64) -> Result<Why, Refusal> {
+    use compare::Why as Told;
+    match compare::why_not(request, task, start) {
+        Ok(Told::Data { from, minute }) => Ok(Why::LateData { from, minute }),
+        Ok(Told::Window { begin, end }) => Ok(Why::InWindow { begin, end }),
+        Ok(Told::Row { task, start: begin, finish: end }) => {
+            Ok(Why::BesideRow { task, begin, end })
+        }
+        Ok(Told::Own { start }) => Ok(Why::OwnStart { start }),
+        Ok(Told::NoTask { tasks }) => Ok(Why::NoTask { tasks }),
+        Err(compare::Refusal { number, place }) => Err(Refusal { number, place }),
     }
 }
 
@@ -52,6 +68,11 @@ fn agree(request: &[u8]) {
     let range = range.map(|costs| Costs { cheapest: costs.cheapest, heft: costs.heft });
     let range = range.map_err(|refusal| Refusal { number: refusal.number, place: refusal.place });
     assert_eq!(zabgurin::range(request), range, "{request:?}");
+    let starts = starts(request);
+    for &(task, start) in starts.iter().step_by(1 + starts.len() / 6) {
+        let told = why(request, task, start);
+        assert_eq!(zabgurin::why(request, task, start), told, "{task} at {start}: {request:?}");
+    }
     for task in [0, 1, 7, 63, 64, usize::MAX] {
         assert_eq!(zabgurin::label(request, task), compare::label(request, task), "{request:?}");
     }
@@ -126,6 +147,7 @@ fn nothing_lent_and_nothing_sent() {
         assert_eq!(print(&[], &mut []), Err(b"no 1 0\n".len()));
     }
     assert_eq!(zabgurin::range(&[]), Err(Refusal { number: 1, place: 0 }));
+    assert_eq!(zabgurin::why(&[], 0, 0), Err(Refusal { number: 1, place: 0 }));
     assert!(zabgurin::listed(b'-') && !zabgurin::listed(b';'));
     assert_eq!(zabgurin::label_len(b"prep    ", 0), 4);
 }

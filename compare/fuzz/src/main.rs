@@ -7,10 +7,10 @@ use std::time::{Duration, Instant};
 use std::{env, fs, process};
 
 use compare::random::{Damage, Random};
-use compare::shapes::{shaped, BUDGETS, DEADLINES, GRAPHS};
+use compare::shapes::{shaped, starts, BUDGETS, DEADLINES, GRAPHS};
 use compare::shapes::{MARKERS, MINIMUMS, NUMBERS, SHARES, WINDOWS};
-use compare::{samples, Answer, Method, Row};
-use zabgurin::{Costs, Refusal};
+use compare::{samples, Answer, Method, Row, Why as Told};
+use zabgurin::{Costs, Refusal, Why};
 
 static COUNTERS: AtomicPtr<u8> = AtomicPtr::new(std::ptr::null_mut());
 static COUNT: AtomicUsize = AtomicUsize::new(0);
@@ -35,7 +35,7 @@ fn reached() -> Vec<(usize, u32)> {
     reached
 }
 
-/// Holds the library against the independent program on one request, with these many numbers in each buffer: by each method, and the range.
+/// Holds the library against the independent program on one request, with these many numbers in each buffer: by each method, the range, and what is told of some starts.
 fn agree(request: &[u8], lent: [usize; 4]) {
     let same = planned_alike(Method::Hbcs, zabgurin::plan_into, request, lent)
         && planned_alike(Method::Cheapest, zabgurin::cheapest_into, request, lent)
@@ -52,12 +52,33 @@ fn agree(request: &[u8], lent: [usize; 4]) {
         }
         _ => false,
     };
+    let starts = starts(request);
+    let whys = starts.iter().step_by(1 + starts.len() / 6).all(|&(task, start)| {
+        told_alike(compare::why_not(request, task, start), zabgurin::why(request, task, start))
+    });
     let labels =
         (0..66).all(|task| zabgurin::label(request, task) == compare::label(request, task));
-    if !same || !texts || !range || !labels {
+    if !same || !texts || !range || !whys || !labels {
         fs::write("differs.request", request).expect("a file beside the corpus");
         eprintln!("they differ, lent {lent:?}; the request is in differs.request");
         process::exit(1);
+    }
+}
+
+/// Whether the same is told of a start.
+fn told_alike(theirs: Result<Told, compare::Refusal>, ours: Result<Why, Refusal>) -> bool {
+    match (theirs, ours) {
+        (Ok(Told::Data { from, minute }), Ok(why)) => why == Why::LateData { from, minute },
+        (Ok(Told::Window { begin, end }), Ok(why)) => why == Why::InWindow { begin, end },
+        (Ok(Told::Row { task, start: begin, finish: end }), Ok(why)) => {
+            why == Why::BesideRow { task, begin, end }
+        }
+        (Ok(Told::Own { start }), Ok(why)) => why == Why::OwnStart { start },
+        (Ok(Told::NoTask { tasks }), Ok(why)) => why == Why::NoTask { tasks },
+        (Err(theirs), Err(Refusal { number, place })) => {
+            (theirs.number, theirs.place) == (number, place)
+        }
+        _ => false,
     }
 }
 
