@@ -70,6 +70,8 @@ fn without_a_kit() {
     ends(&tools, &["plan", "-"], 2, usage);
     ends(&tools, &["plan", SAMPLE, SAMPLE], 2, usage);
     ends(&tools, &["plan", SAMPLE, "--heft"], 2, usage);
+    ends(&tools, &["plan", "--", SAMPLE], 2, usage);
+    ends(&tools, &["plan", SAMPLE, "--", SAMPLE], 2, usage);
     for method in ["--cheapest", "--heft"] {
         ends(&tools, &["plan", method, SAMPLE, SAMPLE], 2, usage);
         ends(&tools, &["plan", method, "--best"], 2, usage);
