@@ -4,6 +4,8 @@
 
 mod common;
 
+use std::fs;
+
 use common::run;
 use compare::build::{sample, Draft};
 use compare::random::{draft, Limits, Random, SMALL};
@@ -386,5 +388,29 @@ fn each_line_and_its_sentence() {
         let output = run(&["--why", &task.to_string(), &start.to_string()], &request);
         assert!(output.status.success() && output.stderr.is_empty());
         assert_eq!(String::from_utf8(output.stdout).unwrap(), expected);
+    }
+}
+
+/// Each call of `./why` on a sample in these documents, and the lines below it.
+#[test]
+fn the_documents_show_what_is_printed() {
+    let all = samples::all();
+    for (document, shown) in [("README.md", 1), ("docs/HELP.md", 4)] {
+        let file = format!("{}/../{document}", env!("CARGO_MANIFEST_DIR"));
+        let text = fs::read_to_string(file).expect("the document is there");
+        let calls: Vec<&str> = text.split("`./why samples/").skip(1).collect();
+        assert_eq!(calls.len(), shown, "{document}");
+        for call in calls {
+            let (words, below) = call.split_once('`').unwrap();
+            let [file, task, start] = words.split(' ').collect::<Vec<_>>()[..] else {
+                panic!("{document}: {words}")
+            };
+            let (_, request) =
+                all.iter().find(|(name, _)| format!("{name}.request") == file).unwrap();
+            let lines = below.lines().skip(2).take_while(|line| line.starts_with("    "));
+            let shown: String = lines.map(|line| format!("{}\n", &line[4..])).collect();
+            let printed = why_text(request, task.parse().unwrap(), start.parse().unwrap());
+            assert_eq!(shown.into_bytes(), printed, "{document}: {words}");
+        }
     }
 }
