@@ -105,8 +105,8 @@ struct zabgurin_costs zabgurin_range(const uint8_t *request, size_t request_len)
     4   `start` is not below its own start                  -                   its own start         -
     5   the request has no such task                        how many it has     -                     -
 
-   Of the first three it is the first that is so, and one of them always is: all other rows, the windows and the processor kept, no task can start sooner. Of data it is what arrives
-   last, and of equals what comes from the lowest task; of windows the earliest; of rows that of the lowest task. */
+   Where `start` is below the task's own it is the first of 1 to 3 that is so, and one of them always is: all other rows, the windows and the processor kept, no task can start
+   sooner. Of data it is what arrives last, and of equals what comes from the lowest task; of windows the earliest; of rows that of the lowest task. */
 struct zabgurin_reason {
     uint64_t number;
     uint64_t place;

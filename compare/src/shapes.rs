@@ -252,7 +252,7 @@ fn planned(request: &[u8]) -> Option<Vec<Row>> {
     }
 }
 
-/// Tasks and starts to ask of: each task of the plan, if there is one, at starts that [`starts_of`] gives, and tasks that
+/// Tasks and starts to ask of: each task of the plan, if there is one, at the starts that `starts_of` gives, and tasks that
 /// the request does not have.
 pub fn starts(request: &[u8]) -> Vec<(usize, u64)> {
     let rows = planned(request).unwrap_or_default();
