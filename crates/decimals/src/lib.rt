@@ -44,7 +44,7 @@ fn digit_count(x: u64) -> usize
 }
 
 // A number, from its last digit to its first: `front` has those that are still to be written.
-fn put_decimal(out: &mut [u8], at: usize, x: u64) -> usize
+pub fn put_decimal(out: &mut [u8], at: usize, x: u64) -> usize
     requires { ⌜ Room (now out) at (decimal x) ⌝ }
     ensures { λ r. ⌜ Wrote (now (out .entry)) at (decimal x) (now (out .exit)) r ⌝ }
 {
