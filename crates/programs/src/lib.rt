@@ -1,9 +1,11 @@
 // What the programs write: a text in a lent buffer, and how many bytes of it.
 ghost use mathlib.Core.Path.{_≡_};
+ghost use Prim.Native.Nat.{_-_, _≤_};
 ghost use Rattle.io.specs.Counts.{Counts};
 ghost use Rattle.rules.specs.Text.{text-asked};
 ghost use Rattle.rules.specs.Range.{range-text};
 ghost use Rattle.choosing.specs.Named.{meant-method};
+ghost use Rattle.programs.specs.Spelled.{number-of};
 ghost use Rattle.programs.specs.Told.{to-write, TextIn};
 use choosing::Method;
 use text::Printed;
@@ -32,4 +34,25 @@ pub fn range_text(request: &[u8], out: &mut [u8]) -> usize
 {
     let printed = text::print_range(request, out);
     bytes_of(printed)
+}
+
+// What a byte counts as a digit; 0 for one below `0`.
+fn digit_of(b: u8) -> u64
+    ensures { λ r. ⌜ (r ≡ b - 48) × (r ≤ 207) ⌝ }
+{
+    if b < 48 { 0 } else { (b - 48) as u64 }
+}
+
+// The number that an argument spells. 17 bytes of it are read, for no 17 of them pass 64 bits.
+pub fn number_of(digits: &[u8]) -> u64
+    ensures { λ r. ⌜ r ≡ number-of (now (digits .entry)) ⌝ }
+{
+    let n = numbers::smaller(digits.len() as u64, 17) as usize;
+    let mut x = 0;
+    let mut i = 0;
+    while i < n {
+        x = x * 10 + digit_of(digits[i]);
+        i += 1;
+    }
+    x
 }
