@@ -1,1 +1,5 @@
 pub mod Meant
+pub mod ArrivalLaws
+pub mod MetLaws
+pub mod WhyLaws
+pub mod Settled
