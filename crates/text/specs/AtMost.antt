@@ -22,8 +22,8 @@ use Rattle.demands.specs.Ground.GoodRequest.{outcome-of-stopped}
 use Rattle.demands.specs.Demand2.WhatIsDue as due
 use Rattle.demands.specs.Demand2.WhatIsDue.{Due, seven, eight, nine, eleven, requests-get-their-due}
 use Rattle.decimals.specs.Wrote.{Room}
-use Rattle.text.specs.PlanBounds.{row-bounds}
-use Rattle.text.specs.AnswerBounds.{in-force-is-in-range, answer-in}
+use Rattle.bounds.specs.PlanBounds.{row-bounds}
+use Rattle.bounds.specs.AnswerBounds.{in-force-is-in-range, answer-in}
 use Rattle.text.specs.LineBounds.{first-line-at-most, range-line-at-most, row-line-at-most, lines-at-most}
 
 -- A refusal has no rows.

@@ -12,8 +12,8 @@ use Rattle.rules.specs.Range.{range-of, range-line}
 use Rattle.decimals.specs.Decimals.{decimal-length}
 use Rattle.decimals.specs.Fields.{four-numbers, four-fields}
 use Rattle.lines.specs.Lines.{two-line, two-fields}
-use Rattle.text.specs.PlanBounds.{RowBounds}
-use Rattle.text.specs.AnswerBounds.{AnswerIn}
+use Rattle.bounds.specs.PlanBounds.{RowBounds}
+use Rattle.bounds.specs.AnswerBounds.{AnswerIn}
 
 -- The digits of four numbers, and a byte after each.
 four-length : (a b c d : ℕ) →

@@ -25,7 +25,7 @@ use Rattle.demands.specs.Demand1.Reading.{reading-stops, stopped-with-1-to-6}
 use Rattle.demands.specs.Demand2.Cheapest.{Assignment, costs-in-all, cheapest-at-most-any}
 use Rattle.demands.specs.Demand2.WhatIsDue as due
 use Rattle.demands.specs.Demand2.WhatIsDue.{Due, seven, eight, nine, eleven, requests-get-their-due}
-use Rattle.text.specs.PlanBounds.{length-at-most, cost-at-most-in-all}
+use Rattle.bounds.specs.PlanBounds.{length-at-most, cost-at-most-in-all}
 
 abbrev pub AnswerIn : Answer → Type 0
 AnswerIn (planned n long cost left) = (n ≤ 64) × (long ≤ finish-most) × (cost ≤ total-most) × (left ≤ budget-most)
