@@ -1,4 +1,4 @@
--- Two answers that the contract of `print`, or of `print_range`, allows are one answer, and so are two exits of the buffer.
+-- Two answers that the contract of `print`, `print_range` or `print_why` allows are one answer, and so are two exits of the buffer.
 use Prim.Native.Nat.{ℕ}
 use mathlib.Core.Path.{_≡_, sym, _∙_}
 use mathlib.Core.List.{List}

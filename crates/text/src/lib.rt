@@ -1,8 +1,9 @@
-// The printed plan of document 01, and the range, written into a lent buffer.
+// The printed plan of document 01, the range, and why a task does not start sooner, written into a lent buffer.
 ghost use Prim.Native.Nat.{_≤_};
 ghost use lib.ListN.{length};
 ghost use Rattle.rules.specs.Text.{text-asked};
 ghost use Rattle.rules.specs.Range.{range-text};
+ghost use Rattle.rules.specs.Why.{why-not, why-text};
 ghost use Rattle.choosing.specs.Named.{meant-method};
 ghost use Rattle.reader.specs.Meaning.{ViewOf};
 ghost use Rattle.decimals.specs.Wrote.{Wrote};
@@ -100,4 +101,14 @@ pub fn print_range(request: &[u8], out: &mut [u8]) -> Printed
     let mut line = [0u8; 24];
     let n = lines::put_range_line(&mut line, costs);
     print_text(&line[..n], out)
+}
+
+// Prints why a task does not start at a minute, as `print` does a text.
+pub fn print_why(request: &[u8], task: usize, start: u64, out: &mut [u8]) -> Printed
+    ensures { λ r. ⌜ PrintedAs (why-text (why-not (now (request .entry)) task start)) (now (out .entry)) (now (out .exit)) r ⌝ }
+{
+    let why = sooner::why_not(request, task, start);
+    let mut said = [0u8; 180];
+    let n = sentences::put_why(&mut said, why);
+    print_text(&said[..n], out)
 }
