@@ -4,6 +4,7 @@ ghost use Prim.Native.Nat.{_-_, _≤_};
 ghost use Rattle.io.specs.Counts.{Counts};
 ghost use Rattle.rules.specs.Text.{text-asked};
 ghost use Rattle.rules.specs.Range.{range-text};
+ghost use Rattle.rules.specs.Why.{why-not, why-text};
 ghost use Rattle.choosing.specs.Named.{meant-method};
 ghost use Rattle.programs.specs.Spelled.{number-of};
 ghost use Rattle.programs.specs.Told.{to-write, TextIn};
@@ -55,4 +56,14 @@ pub fn number_of(digits: &[u8]) -> u64
         i += 1;
     }
     x
+}
+
+// Why a task of a request does not start at a minute, both as an argument spells them. The longest text has 180 bytes.
+pub fn why_text(request: &[u8], task: &[u8], start: &[u8], out: &mut [u8]) -> usize
+    ensures { λ r. ⌜ Counts r (now (out .exit)) × TextIn (why-text (why-not (now (request .entry)) (number-of (now (task .entry))) (number-of (now (start .entry))))) (now (out .entry)) (now (out .exit)) r ⌝ }
+{
+    let number = number_of(task) as usize;
+    let minute = number_of(start);
+    let printed = text::print_why(request, number, minute, out);
+    bytes_of(printed)
 }
