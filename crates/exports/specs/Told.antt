@@ -1,4 +1,4 @@
--- What the exported structs tell: the rules' reading, answers and costs in numbers.
+-- What the exported structs tell: the rules' reading, answers, costs and reasons in numbers.
 use Prim.Native.Nat.{ℕ}
 use mathlib.Core.Path.{_≡_}
 use mathlib.Core.List.{List}
@@ -10,11 +10,13 @@ use Rattle.rules.specs.Method.{Name}
 use Rattle.rules.specs.Answer.{Answer, planned, refused, answer-asked}
 use Rattle.rules.specs.Buffers.{Buffers, rows-lent, buffers-asked}
 use Rattle.rules.specs.Range.{Range, between, no-range}
+use Rattle.rules.specs.Why.{Why, late-data, in-window, beside-row, own-start, no-task, no-plan}
 use Rattle.text.specs.Printed.{after}
 use Rattle.exports.specs.declared.ZabgurinReading.{ZabgurinReading}
 use Rattle.exports.specs.declared.ZabgurinPart.{ZabgurinPart}
 use Rattle.exports.specs.declared.ZabgurinAnswer.{ZabgurinAnswer}
 use Rattle.exports.specs.declared.ZabgurinCosts.{ZabgurinCosts}
+use Rattle.exports.specs.declared.ZabgurinWhy.{ZabgurinWhy}
 
 -- No deadline is told as 0, which no deadline is.
 abbrev pub told-deadline : Deadline → ℕ
@@ -84,6 +86,18 @@ pub record PlanTold (M : Name) (s : List ℕ) (lent after : Buffers) (r : Zabgur
 abbrev pub told-costs : Range → ZabgurinCosts
 told-costs (between cheapest HEFT) = record { number = 0; place = 0; cheapest = cheapest; heft = HEFT }
 told-costs (no-range number place) = record { number = number; place = place; cheapest = 0; heft = 0 }
+
+-- A reason is told by a number, with number 0, which no refusal has, and 0 for what it does not name.
+abbrev pub told-reason : (reason task begin end : ℕ) → ZabgurinWhy
+told-reason reason task begin end = record { number = 0; place = 0; reason = reason; task = task; begin = begin; end = end }
+
+abbrev pub told-why : Why → ZabgurinWhy
+told-why (late-data from minute) = told-reason 1 from minute 0
+told-why (in-window begin end) = told-reason 2 0 begin end
+told-why (beside-row task begin end) = told-reason 3 task begin end
+told-why (own-start start) = told-reason 4 0 start 0
+told-why (no-task tasks) = told-reason 5 tasks 0 0
+told-why (no-plan number place) = record { number = number; place = place; reason = 0; task = 0; begin = 0; end = 0 }
 
 -- The length of a text is told, and the buffer after the call has it where there is room.
 pub record TextTold (t out out′ : List ℕ) (r : ℕ) : Type 0 where

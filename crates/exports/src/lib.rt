@@ -6,17 +6,19 @@ ghost use Rattle.rules.specs.Labels.{label-lookup};
 ghost use Rattle.rules.specs.Method.{by-HBCS, by-cheapest, by-HEFT};
 ghost use Rattle.rules.specs.Text.{text-asked};
 ghost use Rattle.rules.specs.Range.{range};
+ghost use Rattle.rules.specs.Why.{why-not};
 ghost use Rattle.choosing.specs.Named.{meant-method};
 ghost use Rattle.reader.specs.Meaning.{meant-deadline, meant-share};
 ghost use Rattle.planner.specs.Planned.{meant-answer};
 ghost use Rattle.buffers.specs.Into.{four};
-ghost use Rattle.exports.specs.Told.{told-deadline, told-given, told-share, told, told-part, told-answer, PlanTold, told-costs, TextTold};
+ghost use Rattle.exports.specs.Told.{told-deadline, told-given, told-share, told, told-part, told-answer, PlanTold, told-costs, told-reason, told-why, TextTold};
 use choosing::Method;
 use planner::Answer;
 use planner::Costs;
 use reader::Deadline;
 use reader::Reading;
 use reader::Share;
+use reasons::Why;
 use text::Printed;
 
 // Whether a byte stands in the list.
@@ -284,6 +286,55 @@ pub extern "C" fn zabgurin_range(request: &[u8]) -> ZabgurinCosts
             place,
             cheapest: 0,
             heft: 0,
+        },
+    }
+}
+
+// Why a task does not start at a minute. `number` is that of the refusal, with its place; or 0, with what stands against that start by its number in `reason`. 1: the
+// data from `task`, which arrives at `begin`; 2: its processor is down from `begin` up to `end`; 3: its processor runs `task` from `begin` up to `end`. 4: its own
+// start is `begin`, not later; 5: there is no such task, and `task` of them are there. All else is 0.
+#[repr(C)]
+pub struct ZabgurinWhy {
+    pub number: u64,
+    pub place: u64,
+    pub reason: u64,
+    pub task: u64,
+    pub begin: u64,
+    pub end: u64,
+}
+
+fn reason_told(reason: u64, task: u64, begin: u64, end: u64) -> ZabgurinWhy
+    ensures { λ r. ⌜ r ≡ told-reason reason task begin end ⌝ }
+{
+    ZabgurinWhy {
+        number: 0,
+        place: 0,
+        reason,
+        task,
+        begin,
+        end,
+    }
+}
+
+// Why a task does not start at `start`, in the plan within its budget, with 64 rows lent.
+#[no_mangle]
+pub extern "C" fn zabgurin_why(request: &[u8], task: usize, start: u64) -> ZabgurinWhy
+    ensures { λ r. ⌜ r ≡ told-why (why-not (now (request .entry)) task start) ⌝ }
+{
+    let why = sooner::why_not(request, task, start);
+    match why {
+        Why::LateData { from, minute } => reason_told(1, from, minute, 0),
+        Why::InWindow { begin, end } => reason_told(2, 0, begin, end),
+        Why::BesideRow { task, begin, end } => reason_told(3, task, begin, end),
+        Why::OwnStart { start } => reason_told(4, 0, start, 0),
+        Why::NoTask { tasks } => reason_told(5, tasks, 0, 0),
+        Why::NoPlan { number, place } => ZabgurinWhy {
+            number,
+            place,
+            reason: 0,
+            task: 0,
+            begin: 0,
+            end: 0,
         },
     }
 }
