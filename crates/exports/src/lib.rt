@@ -290,9 +290,9 @@ pub extern "C" fn zabgurin_range(request: &[u8]) -> ZabgurinCosts
     }
 }
 
-// Why a task does not start at a minute. `number` is that of the refusal, with its place; or 0, with what stands against that start by its number in `reason`. 1: the
-// data from `task`, which arrives at `begin`; 2: its processor is down from `begin` up to `end`; 3: its processor runs `task` from `begin` up to `end`. 4: its own
-// start is `begin`, not later; 5: there is no such task, and `task` of them are there. All else is 0.
+// Why a task does not start at a minute. `number` is that of the refusal, with its place; or 0, with what is so in `reason`. 1: the data from `task` arrives at
+// `begin`; 2: its processor is down from `begin` up to `end`; 3: its processor runs `task` from `begin` up to `end`; 4: its own start is `begin`, so that minute is
+// not sooner; 5: there is no such task, the request has `task` of them. All else is 0.
 #[repr(C)]
 pub struct ZabgurinWhy {
     pub number: u64,
