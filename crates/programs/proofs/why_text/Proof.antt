@@ -1,4 +1,6 @@
 -- The two numbers are spelled, and what was printed lies inside the buffer.
+use mathlib.Core.Path.{ap₂}
+use Rattle.rules.specs.Why.{why-not, why-text}
 use borrow.Author.Needs.{needs}
 use Rattle.programs.specs.Told.{text-in}
 use Rattle.programs.proofs.why_text.Statement.{statement}
@@ -23,7 +25,9 @@ returns : tie.Need-returns
 returns c =
     let printed = c .before .before .before in
     let minute = printed .before .before in
-    rw (← minute .before .number-of .ensures, ← minute .number-of2 .ensures) (text-in (printed .print-why .ensures) (c .bytes-of .ensures))
+    let request = minute .before .before .before .before .before .before .args .request .now in
+    rw (ap₂ (λ i t. why-text (why-not request i t)) (minute .before .number-of .ensures) (minute .number-of2 .ensures)) at
+    (text-in (printed .print-why .ensures) (c .bytes-of .ensures))
 
 pub why-text-spec : {M : Type 1} → statement M
 why-text-spec =
