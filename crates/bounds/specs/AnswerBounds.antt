@@ -18,7 +18,7 @@ use Rattle.good.specs.Program.{answer-asked-first}
 use Rattle.laws.specs.Bounds.{finish-most, cost-most, total-most, budget-most}
 use Rattle.laws.specs.Folds.{sum-at-most-each}
 use Rattle.costs.specs.CostLaws.{cost-at-most}
-use Rattle.planner.specs.Ready.{in-force-in-range, unbound-in-range, HEFT-cost-at-most, budget-between-at-most}
+use Rattle.budgets.specs.Ready.{in-force-in-range, unbound-in-range, HEFT-cost-at-most, budget-between-at-most}
 use Rattle.demands.specs.Ground.GoodRequest.{outcome-of-stopped}
 use Rattle.demands.specs.Demand1.ReadsSettled.{comes-inside}
 use Rattle.demands.specs.Demand1.Reading.{reading-stops, stopped-with-1-to-6}

@@ -15,7 +15,8 @@ use Rattle.rules.specs.Budget.{held-to}
 use Rattle.rules.specs.Answer.{refusal, refuse, too-late, placed-outcome, checked, later-checks, outcome-of, outcome-by}
 use Rattle.laws.specs.InForce.{tasks-held, cyclic-held, lowest-in-cycle-held}
 use Rattle.placing.specs.Placed.{all-rows}
-use Rattle.planner.specs.Planned.{later-by, plan-alone, held-to-none}
+use Rattle.budgets.specs.Prepared.{held-to-none}
+use Rattle.planner.specs.Planned.{later-by, plan-alone}
 
 -- 7 and 8, by any method: what is in force changes no task and no cycle.
 module _ (M : Name) (share : Share) (W : Workflow) (lent : ℕ) where

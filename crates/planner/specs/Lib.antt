@@ -1,6 +1,5 @@
 pub mod Planned
 pub mod Checks
 pub mod Plans
-pub mod Ready
 pub mod Reach
 pub mod Settled

@@ -1,11 +1,10 @@
 -- What the planner's answers and arrays mean.
 use Prim.Native.Nat.{ℕ}
 use mathlib.Core.Path.{_≡_}
-use mathlib.Core.Bool.{Bool, true, false}
 use mathlib.Core.List.{List, []}
 use Rattle.rules.specs.Workflow.{Workflow}
 use Rattle.rules.specs.Rows.{Placed}
-use Rattle.rules.specs.Method.{Name, by-HBCS, by-cheapest, by-HEFT}
+use Rattle.rules.specs.Method.{Name}
 use Rattle.rules.specs.Budget.{unbound, workflow-for}
 use Rattle.rules.specs.Answer as rules
 use Rattle.rules.specs.Range.{Range, between, no-range}
@@ -54,12 +53,6 @@ later-by M W = rules.later-checks M W (all-rows M W)
 -- The plan by a method that is held to nothing.
 unfoldable pub plan-alone : Name → Workflow → rules.Outcome
 plan-alone M W = rules.plan (unbound W) (all-rows M (unbound W))
-
--- Which methods are so.
-unfoldable pub held-to-none : Name → Bool
-held-to-none by-HBCS = false
-held-to-none by-cheapest = true
-held-to-none by-HEFT = true
 
 unfoldable pub rows-told : Answer → ℕ
 rows-told (answer.Planned n length cost left) = n

@@ -1,29 +1,21 @@
 // The plan of a request by the method that is asked for: the answer, and its rows in four arrays.
-ghost use Prim.Native.Nat.{_≤_};
 ghost use mathlib.Core.Path.{_≡_};
 ghost use mathlib.Core.Bool.{false};
 ghost use mathlib.Core.List.{[]};
 ghost use Rattle.rules.specs.Cycle.{cyclic};
-ghost use Rattle.rules.specs.Ranks.{cheapest-total};
 ghost use Rattle.rules.specs.Method.{by-HBCS};
-ghost use Rattle.rules.specs.Reading.{no-deadline};
-ghost use Rattle.rules.specs.Budget.{in-force, budget-between, budget-of};
-ghost use Rattle.rules.specs.Answer.{too-late, outcome-by, outcome-asked, answer-asked};
+ghost use Rattle.rules.specs.Answer.{outcome-by, outcome-asked, answer-asked};
 ghost use Rattle.rules.specs.Range as rules;
 ghost use Rattle.rules.specs.Range.{range-of};
-ghost use Rattle.laws.specs.Bounds.{total-most, budget-most};
 ghost use Rattle.choosing.specs.Named.{meant-method};
-ghost use Rattle.reader.specs.Meaning.{ViewOf, meant-deadline, meant-share};
+ghost use Rattle.reader.specs.Meaning.{ViewOf};
 ghost use Rattle.lookup.specs.Lookup.{workflow-of};
-ghost use Rattle.charges.specs.Charges.{ChargesOf};
 ghost use Rattle.successors.specs.Begins.{BeginsFrom};
-ghost use Rattle.placing.specs.Placed.{RanksOf, Columns, PlacedAs};
-ghost use Rattle.planner.specs.Planned.{meant-answer, meant-costs, PlanOf, planned-in, workflow-by, later-by, plan-alone, held-to-none, rows-told};
+ghost use Rattle.placing.specs.Placed.{RanksOf, Columns};
+ghost use Rattle.budgets.specs.Prepared.{Prepared};
+ghost use Rattle.planner.specs.Planned.{meant-answer, meant-costs, PlanOf, planned-in, workflow-by, later-by, plan-alone, rows-told};
 use choosing::Method;
-use placing::Placing;
-use reader::Deadline;
 use reader::Reading;
-use reader::Share;
 use reader::View;
 
 // "Either a plan summary (n, length, cost, budget left) or a refusal (number, place)."
@@ -49,125 +41,6 @@ pub struct Planning {
     pub costs: [u64; 64],
 }
 
-// "length above the deadline"
-fn too_late(deadline: Deadline, length: u64) -> bool
-    ensures { λ r. ⌜ r ≡ too-late (meant-deadline deadline) length ⌝ }
-{
-    match deadline {
-        Deadline::Without => false,
-        Deadline::By(minutes) => minutes < length,
-    }
-}
-
-// Places all tasks by a method within a budget, beside the windows, which are read for it, and from minute 0 on.
-fn place_all<'a>(
-    s: &[u8],
-    v: View,
-    method: Method,
-    budget: u64,
-    prices: &'a [u64; 16],
-    minimums: &'a [u64; 16],
-    ranks: &[u64; 64],
-    edges_at: &[u16; 65],
-    cheapest: u64,
-    processors: &mut [u64; 64],
-    starts: &mut [u64; 64],
-    finishes: &mut [u64; 64],
-    costs: &mut [u64; 64],
-) -> Placing
-    requires { ⌜ ViewOf (now s) v ⌝ }
-    requires { ⌜ RanksOf (workflow-of (now s) v) (now ranks) × (cheapest ≡ cheapest-total (workflow-of (now s) v)) × ChargesOf (workflow-of (now s) v) (now prices) (now minimums) ⌝ }
-    requires { ⌜ (cyclic (workflow-of (now s) v) ≡ false) × BeginsFrom (workflow-of (now s) v) 0 (now «edges_at») × (budget ≤ budget-most) ⌝ }
-    requires { ⌜ Columns [] (now processors) (now starts) (now finishes) (now costs) ⌝ }
-    ensures { λ r. ⌜ PlacedAs (meant-method method) (in-force budget no-deadline (workflow-of (now (s .entry)) v)) (now (processors .exit)) (now (starts .exit)) (now (finishes .exit)) (now (costs .exit)) r ⌝ }
-{
-    let outset = downtime::busy_at_first(s, v);
-    let clock: u64 = 0;
-    placing::place(
-        s,
-        v,
-        method,
-        budget,
-        prices,
-        minimums,
-        ranks,
-        edges_at,
-        cheapest,
-        outset,
-        clock,
-        processors,
-        starts,
-        finishes,
-        costs,
-    )
-}
-
-// Takes all rows back.
-fn no_rows(
-    processors: &mut [u64; 64],
-    starts: &mut [u64; 64],
-    finishes: &mut [u64; 64],
-    costs: &mut [u64; 64],
-)
-    ensures { λ r. ⌜ Columns [] (now (processors .exit)) (now (starts .exit)) (now (finishes .exit)) (now (costs .exit)) ⌝ }
-{
-    *processors = [0u64; 64];
-    *starts = [0u64; 64];
-    *finishes = [0u64; 64];
-    *costs = [0u64; 64];
-}
-
-// "budget = cheapest + floor(k x (HEFT cost - cheapest) / 1000)"
-fn budget_between(k: u64, cheapest: u64, heft_cost: u64) -> u64
-    requires { ⌜ (k ≤ 1_000) × (cheapest ≤ total-most) × («heft_cost» ≤ total-most) ⌝ }
-    ensures { λ r. ⌜ (r ≡ budget-between k cheapest «heft_cost») × (r ≤ budget-most) ⌝ }
-{
-    cheapest + k * numbers::less(heft_cost, cheapest) / 1_000
-}
-
-// The budget in force: that of `H`, or the one that a `K` sets. For this the HEFT plan is placed, and its rows are taken back.
-fn budget_of<'a>(
-    s: &[u8],
-    v: View,
-    prices: &'a [u64; 16],
-    minimums: &'a [u64; 16],
-    ranks: &[u64; 64],
-    edges_at: &[u16; 65],
-    cheapest: u64,
-    processors: &mut [u64; 64],
-    starts: &mut [u64; 64],
-    finishes: &mut [u64; 64],
-    costs: &mut [u64; 64],
-) -> u64
-    requires { ⌜ ViewOf (now s) v ⌝ }
-    requires { ⌜ RanksOf (workflow-of (now s) v) (now ranks) × (cheapest ≡ cheapest-total (workflow-of (now s) v)) × ChargesOf (workflow-of (now s) v) (now prices) (now minimums) ⌝ }
-    requires { ⌜ (cyclic (workflow-of (now s) v) ≡ false) × BeginsFrom (workflow-of (now s) v) 0 (now «edges_at») × (cheapest ≤ total-most) ⌝ }
-    requires { ⌜ Columns [] (now processors) (now starts) (now finishes) (now costs) ⌝ }
-    ensures { λ r. ⌜ (r ≡ budget-of (meant-share (v .share)) (workflow-of (now (s .entry)) v)) × (r ≤ budget-most) × Columns [] (now (processors .exit)) (now (starts .exit)) (now (finishes .exit)) (now (costs .exit)) ⌝ }
-{
-    let share = v.share;
-    let Share::Of(k) = share else {
-        return v.budget;
-    };
-    let heft = place_all(
-        s,
-        v,
-        Method::Heft,
-        0,
-        prices,
-        minimums,
-        ranks,
-        edges_at,
-        cheapest,
-        processors,
-        starts,
-        finishes,
-        costs,
-    );
-    no_rows(processors, starts, finishes, costs);
-    budget_between(k, cheapest, heft.cost)
-}
-
 // HBCS: check 9, placing within the budget in force, and check 11, which takes the rows back.
 fn plan_within<'a>(
     s: &[u8],
@@ -182,13 +55,11 @@ fn plan_within<'a>(
     finishes: &mut [u64; 64],
     costs: &mut [u64; 64],
 ) -> Answer
-    requires { ⌜ ViewOf (now s) v ⌝ }
-    requires { ⌜ RanksOf (workflow-of (now s) v) (now ranks) × (cheapest ≡ cheapest-total (workflow-of (now s) v)) × ChargesOf (workflow-of (now s) v) (now prices) (now minimums) ⌝ }
-    requires { ⌜ (cyclic (workflow-of (now s) v) ≡ false) × BeginsFrom (workflow-of (now s) v) 0 (now «edges_at») × (cheapest ≤ total-most) ⌝ }
+    requires { ⌜ Prepared (now s) v (now prices) (now minimums) (now ranks) (now «edges_at») cheapest ⌝ }
     requires { ⌜ Columns [] (now processors) (now starts) (now finishes) (now costs) ⌝ }
     ensures { λ r. ⌜ PlanOf (later-by by-HBCS (workflow-by by-HBCS (now (s .entry)) v)) (planned-in (now (processors .exit)) (now (starts .exit)) (now (finishes .exit)) (now (costs .exit)) r) ⌝ }
 {
-    let in_force = budget_of(
+    let in_force = budgets::budget_of(
         s,
         v,
         prices,
@@ -207,7 +78,7 @@ fn plan_within<'a>(
             place: cheapest,
         };
     }
-    let p = place_all(
+    let p = budgets::place_all(
         s,
         v,
         Method::Hbcs,
@@ -223,8 +94,8 @@ fn plan_within<'a>(
         costs,
     );
     let deadline = v.deadline;
-    if too_late(deadline, p.length) {
-        no_rows(processors, starts, finishes, costs);
+    if budgets::too_late(deadline, p.length) {
+        budgets::no_rows(processors, starts, finishes, costs);
         return Answer::Refused {
             number: 11,
             place: p.length,
@@ -253,13 +124,11 @@ fn plan_alone<'a>(
     finishes: &mut [u64; 64],
     costs: &mut [u64; 64],
 ) -> Answer
-    requires { ⌜ ViewOf (now s) v ⌝ }
-    requires { ⌜ RanksOf (workflow-of (now s) v) (now ranks) × (cheapest ≡ cheapest-total (workflow-of (now s) v)) × ChargesOf (workflow-of (now s) v) (now prices) (now minimums) ⌝ }
-    requires { ⌜ (cyclic (workflow-of (now s) v) ≡ false) × BeginsFrom (workflow-of (now s) v) 0 (now «edges_at») × (cheapest ≤ total-most) ⌝ }
+    requires { ⌜ Prepared (now s) v (now prices) (now minimums) (now ranks) (now «edges_at») cheapest ⌝ }
     requires { ⌜ Columns [] (now processors) (now starts) (now finishes) (now costs) ⌝ }
     ensures { λ r. ⌜ PlanOf (plan-alone (meant-method method) (workflow-of (now (s .entry)) v)) (planned-in (now (processors .exit)) (now (starts .exit)) (now (finishes .exit)) (now (costs .exit)) r) ⌝ }
 {
-    let q = place_all(
+    let q = budgets::place_all(
         s,
         v,
         method,
@@ -279,17 +148,6 @@ fn plan_alone<'a>(
         length: q.length,
         cost: q.cost,
         left: 0,
-    }
-}
-
-// Whether a method is held to no budget.
-fn alone(method: Method) -> bool
-    ensures { λ r. ⌜ r ≡ held-to-none (meant-method method) ⌝ }
-{
-    match method {
-        Method::Hbcs => false,
-        Method::Cheapest => true,
-        Method::Heft => true,
     }
 }
 
@@ -313,7 +171,7 @@ fn plan_ranked(
 {
     let charges = charges::charges_of(s, v);
     let cheapest = costs::cheapest_total(s, v, &charges.prices, &charges.minimums);
-    if alone(method) {
+    if budgets::alone(method) {
         return plan_alone(
             s,
             v,

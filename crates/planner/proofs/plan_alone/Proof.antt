@@ -11,8 +11,7 @@ use Rattle.planner.proofs.plan_alone.Tie as tie
 place-all-requires : tie.Need-place-all-requires
 place-all-requires c κs =
     let start = c .before .before .before .before .before in
-    let (none-cyclic, begin, cheapest-in) = start .pre .1 .1 .0 in
-    (start .pre .0, (start .pre .1 .0, ((none-cyclic, begin, omega arith), start .pre .1 .1 .1)))
+    (start .pre .0, (omega arith, start .pre .1))
 
 returns : tie.Need-returns
 unfolding workflow unbound

@@ -4,6 +4,7 @@ use borrow.Author.Needs.{needs}
 use Rattle.choosing.specs.Named.{meant-method}
 use Rattle.reader.specs.Meaning.{meant-share}
 use Rattle.lookup.specs.Lookup.{workflow-of}
+use Rattle.budgets.specs.Prepared.{Prepared}
 use Rattle.planner.specs.Checks.{alone-later, within-else}
 use Rattle.planner.proofs.plan_ranked.Statement.{statement}
 use Rattle.planner.proofs.plan_ranked.Tie as tie
@@ -21,17 +22,30 @@ alone-requires c κs = search needs
 abbrev entry : tie.After-cheapest-total → tie.Start
 entry c = c .before .before .before .before .before .before
 
+abbrev charges : tie.After-cheapest-total → tie.After-charges-of
+charges c = c .before .before .before .before
+
+prepared :
+    (c : tie.After-cheapest-total)
+    → let a = entry c .args in
+    let p = charges c .charges-of .result in
+    Prepared (a .s .now) (a .v) (p .prices) (p .minimums) (a .ranks .now) (a .edges-at .now) (c .cheapest-total .result)
+prepared c =
+    let pre = entry c .pre in
+    record {
+      good = pre .0;
+      no-cycle = pre .1 .1 .0 .0;
+      ranks-of = pre .1 .0;
+      begins = pre .1 .1 .0 .1;
+      charges-of = charges c .charges-of .ensures;
+      cheapest-is = c .cheapest-total .ensures .0;
+      cheapest-in = c .cheapest-total .ensures .1;
+    }
+
 plan-alone-requires : tie.Need-plan-alone-requires
 plan-alone-requires c κs =
     let total = c .before .before .before .before .before .before .before .before .before in
-    let start = entry total in
-    let charges = total .before .before .before .before .charges-of in (
-      start .pre .0,
-      (
-        (start .pre .1 .0, total .cheapest-total .ensures .0, charges .ensures),
-        ((start .pre .1 .1 .0 .0, start .pre .1 .1 .0 .1, total .cheapest-total .ensures .1), start .pre .1 .1 .1),
-      ),
-    )
+    (prepared total, entry total .pre .1 .1 .1)
 
 returns : tie.Need-returns
 returns c =
@@ -44,14 +58,7 @@ returns c =
 plan-within-requires : tie.Need-plan-within-requires
 plan-within-requires c κs =
     let total = c .before .before .before .before .before .before .before .before .before in
-    let start = entry total in
-    let charges = total .before .before .before .before .charges-of in (
-      start .pre .0,
-      (
-        (start .pre .1 .0, total .cheapest-total .ensures .0, charges .ensures),
-        ((start .pre .1 .1 .0 .0, start .pre .1 .1 .0 .1, total .cheapest-total .ensures .1), start .pre .1 .1 .1),
-      ),
-    )
+    (prepared total, entry total .pre .1 .1 .1)
 
 returns-2 : tie.Need-returns-2
 returns-2 c =

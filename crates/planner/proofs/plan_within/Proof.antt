@@ -34,7 +34,7 @@ bound c = workflow-by by-HBCS (entry c .args .s .now) (entry c .args .v)
 
 cheapest-is : (c : tie.After-budget-of) → entry c .args .cheapest ≡ cheapest-total (bound c)
 unfolding workflow held-to in-force cheapest-total lowest-cost cost
-cheapest-is c = entry c .pre .1 .0 .1
+cheapest-is c = entry c .pre .0 .cheapest-is
 
 budget-is : (c : tie.After-budget-of) → c .budget-of .result ≡ bound c .budget
 unfolding workflow held-to in-force
@@ -49,9 +49,7 @@ returns c =
 place-all-requires : tie.Need-place-all-requires
 place-all-requires c κs =
     let known = c .before .before .before .before .before in
-    let start = entry known in
-    let (none-cyclic, begin, cheapest-in) = start .pre .1 .1 .0 in
-    (start .pre .0, (start .pre .1 .0, ((none-cyclic, begin, known .budget-of .ensures .1), known .budget-of .ensures .2)))
+    (entry known .pre .0, (known .budget-of .ensures .1, known .budget-of .ensures .2))
 
 abbrev known-of : tie.After-place-all → tie.After-budget-of
 known-of c = c .before .before .before .before .before .before
@@ -75,7 +73,7 @@ returns-2 c =
     let place = late-one .before .before in
     let known = known-of place in
     let start = entry known in
-    let some = view-in-range (start .args .s .now) (start .args .v) (start .pre .0) .processors-in .from-low in
+    let some = view-in-range (start .args .s .now) (start .args .v) (start .pre .0 .good) .processors-in .from-low in
     let late = sym (late-one .before .too-late .ensures) ∙ late-one .if2 .taken in
     let held = placed-held (meant-share (start .args .v .share)) (flow known) some (known .budget-of .ensures .0) (place .place-all .ensures) in
     rw (placed place, after-deadline (bound known) (all-rows by-HBCS (bound known)) (held .length-is) late) (refused-plan (c .no-rows .ensures) 11 _)
@@ -86,7 +84,7 @@ returns-3 c =
     let place = c .before .before in
     let known = known-of place in
     let start = entry known in
-    let some = view-in-range (start .args .s .now) (start .args .v) (start .pre .0) .processors-in .from-low in
+    let some = view-in-range (start .args .s .now) (start .args .v) (start .pre .0 .good) .processors-in .from-low in
     let held = placed-held (meant-share (start .args .v .share)) (flow known) some (known .budget-of .ensures .0) (place .place-all .ensures) in
     rw (placed place) (plan-in-time held (sym (c .before .too-late .ensures) ∙ c .if2 .left))
 

@@ -1,8 +1,8 @@
 -- By the cases of the deadline.
 use Rattle.rules.specs.Answer.{too-late}
 use borrow.Author.Needs.{needs}
-use Rattle.planner.proofs.too_late.Statement.{statement}
-use Rattle.planner.proofs.too_late.Tie as tie
+use Rattle.budgets.proofs.too_late.Statement.{statement}
+use Rattle.budgets.proofs.too_late.Tie as tie
 
 enum-told : tie.Need-enum-told
 enum-told c = search needs

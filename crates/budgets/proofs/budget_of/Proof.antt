@@ -13,9 +13,9 @@ use Rattle.choosing.specs.Named.{meant-method}
 use Rattle.reader.specs.Meaning.{meant-share}
 use Rattle.lookup.specs.Lookup.{workflow-of}
 use Rattle.lookup.specs.Views.{view-in-range}
-use Rattle.planner.specs.Ready.{HEFT-cost-at-most}
-use Rattle.planner.proofs.budget_of.Statement.{statement}
-use Rattle.planner.proofs.budget_of.Tie as tie
+use Rattle.budgets.specs.Ready.{HEFT-cost-at-most}
+use Rattle.budgets.proofs.budget_of.Statement.{statement}
+use Rattle.budgets.proofs.budget_of.Tie as tie
 
 enum-known-share : tie.Need-enum-known-share
 enum-known-share c = search needs
@@ -27,14 +27,13 @@ returns : tie.Need-returns
 unfolding budget-of workflow
 returns c =
     let start = c .before .before .before in
-    let range = view-in-range (start .args .s .now) (start .args .v) (start .pre .0) in
-    (rw (c .enum-told .given .1), range .budget-in, start .pre .1 .1 .1)
+    let range = view-in-range (start .args .s .now) (start .args .v) (start .pre .0 .good) in
+    (rw (c .enum-told .given .1), range .budget-in, start .pre .1)
 
 place-all-requires : tie.Need-place-all-requires
 place-all-requires c κs =
     let start = c .before .before .before .before .before .before .before .before in
-    let (none-cyclic, begin, cheapest-in) = start .pre .1 .1 .0 in
-    (start .pre .0, (start .pre .1 .0, ((none-cyclic, begin, omega arith), start .pre .1 .1 .1)))
+    (start .pre .0, (omega arith, start .pre .1))
 
 no-rows-requires : tie.Need-no-rows-requires
 no-rows-requires c κs = search needs
@@ -61,9 +60,9 @@ budget-between-requires : tie.Need-budget-between-requires
 budget-between-requires c κs =
     let placed = c .before .before .before .before .before in
     let start = entry placed in (
-      read-is-good (start .args .s .now) (start .pre .0) .share-in (share-of placed) (share-is placed) .0,
-      start .pre .1 .1 .0 .2,
-      rw (cost-is placed) (HEFT-cost-at-most (flow placed) (view-in-range (start .args .s .now) (start .args .v) (start .pre .0))),
+      read-is-good (start .args .s .now) (start .pre .0 .good) .share-in (share-of placed) (share-is placed) .0,
+      start .pre .0 .cheapest-in,
+      rw (cost-is placed) (HEFT-cost-at-most (flow placed) (view-in-range (start .args .s .now) (start .args .v) (start .pre .0 .good))),
     )
 
 returns-2 : tie.Need-returns-2
@@ -72,7 +71,7 @@ returns-2 c =
     let placed = c .before .before .before .before .before .before in
     let start = entry placed in (
       c .budget-between .ensures .0
-          ∙ ap₂ (budget-between (share-of placed)) (start .pre .1 .0 .1) (cost-is placed)
+          ∙ ap₂ (budget-between (share-of placed)) (start .pre .0 .cheapest-is) (cost-is placed)
           ∙ sym (ap (λ share. budget-of share (flow placed)) (share-is placed)),
       c .budget-between .ensures .1,
       c .before .no-rows .ensures,

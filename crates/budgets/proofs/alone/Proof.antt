@@ -1,9 +1,9 @@
 -- By the cases of the method.
 use borrow.Author.Needs.{needs}
 use Rattle.choosing.specs.Named.{meant-method}
-use Rattle.planner.specs.Planned.{held-to-none}
-use Rattle.planner.proofs.alone.Statement.{statement}
-use Rattle.planner.proofs.alone.Tie as tie
+use Rattle.budgets.specs.Prepared.{held-to-none}
+use Rattle.budgets.proofs.alone.Statement.{statement}
+use Rattle.budgets.proofs.alone.Tie as tie
 
 enum-told : tie.Need-enum-told
 enum-told c = search needs

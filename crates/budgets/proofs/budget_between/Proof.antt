@@ -4,9 +4,9 @@ use native.Mathlib.Nat.{mul-le-mul-right}
 use native.Mathlib.Omega.{arith}
 use borrow.Author.Needs.{needs}
 use Rattle.rules.specs.Budget.{budget-between}
-use Rattle.planner.specs.Ready.{budget-between-at-most}
-use Rattle.planner.proofs.budget_between.Statement.{statement}
-use Rattle.planner.proofs.budget_between.Tie as tie
+use Rattle.budgets.specs.Ready.{budget-between-at-most}
+use Rattle.budgets.proofs.budget_between.Statement.{statement}
+use Rattle.budgets.proofs.budget_between.Tie as tie
 
 less-requires : tie.Need-less-requires
 less-requires c κs = search needs
