@@ -49,7 +49,7 @@ pub fn plan_into(
     let mut start_of = [0u64; 64];
     let mut finish_of = [0u64; 64];
     let mut cost_of = [0u64; 64];
-    let answer = planner::plan_columns(
+    let answer = asked::plan_columns(
         request,
         method,
         lent,

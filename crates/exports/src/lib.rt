@@ -273,7 +273,7 @@ pub struct ZabgurinCosts {
 pub extern "C" fn zabgurin_range(request: &[u8]) -> ZabgurinCosts
     ensures { λ r. ⌜ r ≡ told-costs (range (now (request .entry))) ⌝ }
 {
-    let costs = planner::range(request);
+    let costs = asked::range(request);
     match costs {
         Costs::Between { cheapest, heft } => ZabgurinCosts {
             number: 0,

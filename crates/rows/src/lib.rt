@@ -65,7 +65,7 @@ pub fn plan(request: &[u8], method: Method, rows: &mut [Row]) -> Answer
     ensures { λ r. ⌜ PlannedRows (meant-method method) (now (request .entry)) (now (rows .entry)) (now (rows .exit)) r ⌝ }
 {
     let lent = rows.len();
-    let p = planner::plan(request, method, lent);
+    let p = asked::plan(request, method, lent);
     let n = rows_due(p);
     store(rows, n, p);
     answer_of(p)

@@ -97,7 +97,7 @@ pub fn print(request: &[u8], method: Method, out: &mut [u8]) -> Printed
 pub fn print_range(request: &[u8], out: &mut [u8]) -> Printed
     ensures { λ r. ⌜ PrintedAs (range-text (now (request .entry))) (now (out .entry)) (now (out .exit)) r ⌝ }
 {
-    let costs = planner::range(request);
+    let costs = asked::range(request);
     let mut line = [0u8; 24];
     let n = lines::put_range_line(&mut line, costs);
     print_text(&line[..n], out)

@@ -52,10 +52,10 @@ use Rattle.planner.proofs.Answer as answer
 use Rattle.planner.proofs.Answer.Laws as answer-laws
 use Rattle.planner.proofs.Planning as planning
 use Rattle.planner.proofs.Planning.Laws as planning-laws
-use Rattle.planner.proofs.plan as core
-use Rattle.planner.proofs.plan.Symbol as core-def
-use Rattle.planner.proofs.plan.Symbol.{name as #core}
-use Rattle.planner.proofs.plan.Met as core-thm
+use Rattle.asked.proofs.plan as core
+use Rattle.asked.proofs.plan.Symbol as core-def
+use Rattle.asked.proofs.plan.Symbol.{name as #core}
+use Rattle.asked.proofs.plan.Met as core-thm
 use Rattle.rows.specs.declared.Row.{Row}
 use Rattle.rows.specs.Planned.{row-at, PlannedRows}
 use Rattle.rows.specs.Stored.{due-in-reach, rows-planned}
@@ -312,7 +312,7 @@ plan-spec 𝓤 H 𝓜 𝓖 𝓡 =
     (meets 𝓤 H (𝓖 .A) (givenOf 𝓤 H 𝓜 𝓖) (𝓜 .mem) (𝓡 .run) (tablesOf 𝓤 H 𝓜 (tables 𝓤 H 𝓜 𝓡 code.env))
     (record {
       core-met =
-          cited 𝓤 H (Core 𝓤 H (𝓖 .A) (𝓜 .mem) (𝓡 .run)) 𝓜 𝓡 code.env #core core-def.routine code.calls-planner·plan (core-thm.met 𝓤 H 𝓜 𝓖 𝓡);
+          cited 𝓤 H (Core 𝓤 H (𝓖 .A) (𝓜 .mem) (𝓡 .run)) 𝓜 𝓡 code.env #core core-def.routine code.calls-asked·plan (core-thm.met 𝓤 H 𝓜 𝓖 𝓡);
       due-met = cited 𝓤 H (Due 𝓤 H (𝓖 .A) (𝓜 .mem) (𝓡 .run)) 𝓜 𝓡 code.env #due due-def.routine code.calls-rows·rows-due (due-thm.met 𝓤 H 𝓜 𝓖 𝓡);
       store-met =
           cited 𝓤 H (Store 𝓤 H (𝓖 .A) (𝓜 .mem) (𝓡 .run)) 𝓜 𝓡 code.env #store store-def.routine code.calls-rows·store (store-thm.met 𝓤 H 𝓜 𝓖 𝓡);

@@ -3,8 +3,8 @@ use mathlib.Core.Path.{ap₂, _∙_}
 use borrow.Author.Needs.{needs}
 use Rattle.rules.specs.Range.{range-of, range}
 use Rattle.choosing.specs.Named.{meant-method}
-use Rattle.planner.proofs.range.Statement.{statement}
-use Rattle.planner.proofs.range.Tie as tie
+use Rattle.asked.proofs.range.Statement.{statement}
+use Rattle.asked.proofs.range.Tie as tie
 
 answered-requires : tie.Need-answered-requires
 answered-requires c κs = search needs

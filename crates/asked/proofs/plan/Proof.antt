@@ -1,8 +1,8 @@
 -- The arrays hold no row at first, and then the plan's.
 use Rattle.placing.specs.Arrays.{columns-first}
 use borrow.Author.Needs.{needs}
-use Rattle.planner.proofs.plan.Statement.{statement}
-use Rattle.planner.proofs.plan.Tie as tie
+use Rattle.asked.proofs.plan.Statement.{statement}
+use Rattle.asked.proofs.plan.Tie as tie
 
 plan-columns-requires : tie.Need-plan-columns-requires
 plan-columns-requires c κs = columns-first

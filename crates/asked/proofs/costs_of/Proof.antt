@@ -1,9 +1,9 @@
 -- By the cases of both answers.
 use borrow.Author.Needs.{needs}
 use Rattle.rules.specs.Range.{range-of}
 use Rattle.planner.specs.Planned.{meant-answer, meant-costs}
-use Rattle.planner.proofs.costs_of.Statement.{statement}
-use Rattle.planner.proofs.costs_of.Tie as tie
+use Rattle.asked.proofs.costs_of.Statement.{statement}
+use Rattle.asked.proofs.costs_of.Tie as tie
 
 enum-known-cheapest : tie.Need-enum-known-cheapest
 enum-known-cheapest c = search needs

@@ -1,8 +1,8 @@
 -- The arrays hold no row at first; what they hold then is not told.
 use Rattle.rules.specs.Answer.{answer-asked}
 use Rattle.placing.specs.Arrays.{columns-first}
-use Rattle.planner.proofs.answered.Statement.{statement}
-use Rattle.planner.proofs.answered.Tie as tie
+use Rattle.asked.proofs.answered.Statement.{statement}
+use Rattle.asked.proofs.answered.Tie as tie
 
 plan-columns-requires : tie.Need-plan-columns-requires
 plan-columns-requires c κs = columns-first

@@ -2,10 +2,10 @@
 use mathlib.Core.Path.{sym, ap, _∙_}
 use Rattle.rules.specs.Answer.{outcome-asked, outcome-read}
 use Rattle.reader.specs.Meaning.{meant-reading}
 use Rattle.planner.specs.Plans.{refused-plan}
 use borrow.Author.Needs.{needs}
-use Rattle.planner.proofs.plan_columns.Statement.{statement}
-use Rattle.planner.proofs.plan_columns.Tie as tie
+use Rattle.asked.proofs.plan_columns.Statement.{statement}
+use Rattle.asked.proofs.plan_columns.Tie as tie
 
 read-request-requires : tie.Need-read-request-requires
 read-request-requires c κs = search needs
