@@ -2,7 +2,8 @@
 -- Below: what is due for a workflow, refusals too (`WhatIsDue`), and that it is settled (`DueSettled`); the order of the tasks (`PlacingOrder`),
 -- which is document 01's where no minutes are 0 (`WithoutZeros`); the choice for each in document 01's words (`ChoiceAsWritten`) and as equation (10)
 -- (`Worthiness`), and that one can always be taken (`Affordable`); the start of each in document 02's words (`StartAsWritten`), its cost by the record
--- of its processor (`CostAsWritten`), and that no machine runs it in one of the windows that stand in the request (`WindowsAsWritten`); R and HEFT's rank
+-- of its processor (`CostAsWritten`), and that no machine runs it in one of the windows that stand in the request (`WindowsAsWritten`);
+-- that nothing can be pulled forward (`NothingEarlier`), and that what is said of it is true (`WhyNot`); R and HEFT's rank
 -- (`HEFTRank`, `HEFTSettled`); when money is the reason (`RefusalNine`); the cheapest and the HEFT plan, and the budget that a `K` sets (`TwoPlans`); the range that is
 -- told (`BudgetRange`). The other files are what these rest on.
 pub mod Lookup

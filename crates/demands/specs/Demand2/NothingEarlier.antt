@@ -32,7 +32,7 @@ use Rattle.demands.specs.Demand2.Steps.{EachStep, AsTheMethod}
 use Rattle.demands.specs.Demand2.PlacedAt.{new-row, both-placed, PlacedAt, placed-at, only-tasks}
 use Rattle.demands.specs.Demand2.Reasons.{largest-of-some}
 use Rattle.demands.specs.Demand2.WindowsAsWritten.{windows-held, listed-window, no-row-in-a-window}
-use Rattle.demands.specs.Demand2.{PlanGot}
+use Rattle.demands.specs.Demand2.{PlanGot, plan-in-rows, plan-in-buffers}
 
 -- What stands against a start t of task i among n rows, all the others kept.
 pub data Against (W : Workflow) (n : ℕ) (row : ℕ → Row) (i t : ℕ) : Type 0 where
@@ -224,3 +224,14 @@ module _ {M : Name} {s : List ℕ} {lent n l c left : ℕ} {row : ℕ → Row} (
       got .held .apart i k task l (λ same. differ (sym same)) (sym on)
       (common-overlaps (taken-up (row i)) (taken-up (row k))
       (record { in-one = (from, omega (arith, until, got .held .rows-true i task .finish)); in-other = (begin, end) }))
+
+-- From the answer alone, of lent rows; and of four buffers.
+pub nothing-earlier-in-rows :
+    (M : Name) (s : List ℕ) (lent : List Row) {n l c left : ℕ} (e : answer-asked M s (length lent) ≡ planned n l c left) (i : ℕ) → i < n → (t : ℕ)
+    → t < getD (rows-asked M s lent) i no-row .start → StandsAgainstIn (plan-in-rows M s lent e) i t
+nothing-earlier-in-rows M s lent e = nothing-earlier (plan-in-rows M s lent e)
+
+pub nothing-earlier-in-buffers :
+    (M : Name) (s : List ℕ) (lent : Buffers) {n l c left : ℕ} (e : answer-asked M s (rows-lent lent) ≡ planned n l c left) (i : ℕ) → i < n → (t : ℕ)
+    → t < row-in (buffers-asked M s lent) i .start → StandsAgainstIn (plan-in-buffers M s lent e) i t
+nothing-earlier-in-buffers M s lent e = nothing-earlier (plan-in-buffers M s lent e)

@@ -1,13 +1,13 @@
 -- Where each task of a plan came to be placed: what was placed before it, and what stays of that; by each of the three methods.
 use Prim.Native.Nat.{ℕ, _<_}
-use mathlib.Core.Path.{_≡_, refl, sym, ap, _∙_, subst}
-use mathlib.Core.Bool.{Bool, true, false, cond, _||_, false≢true}
+use mathlib.Core.Path.{_≡_, refl, sym, _∙_, subst}
+use mathlib.Core.Bool.{Bool, true, false, _||_, false≢true}
 use mathlib.Core.List.{List, [], _∷_}
 use mathlib.Core.Logic.{_⊎_, inl, inr, ⊎-elim}
 use lib.Dec.{eqb}
 use borrow.Author.Tests.{eqb-true, eq-eqb}
 use Rattle.rules.specs.Workflow.{Workflow}
-use Rattle.rules.specs.Rows.{Row, Placed, row-of, is-placed}
+use Rattle.rules.specs.Rows.{Placed, row-of, is-placed}
 use Rattle.rules.specs.Method.{Name}
 use Rattle.rules.specs.Placing.{row-on}
 use Rattle.laws.specs.Tests.{false-unless-true}

@@ -2,21 +2,20 @@
 -- wait for a predecessor. A task that is placed had the highest R of those that could come when a later one was still to come.
 use Prim.Native.Nat.{ℕ, _≤_, _<_}
 use mathlib.Core.Path.{_≡_, refl, sym, _∙_, subst}
-use mathlib.Core.Bool.{Bool, true, false, _||_, false≢true}
-use mathlib.Core.List.{List, [], _∷_}
-use mathlib.Core.Logic.{_⊎_, inl, inr, ⊎-elim}
+use mathlib.Core.Bool.{Bool, true, false, false≢true}
+use mathlib.Core.List.{List}
+use mathlib.Core.Logic.{_⊎_, inl, inr}
 use native.Mathlib.Omega.{arith}
-use lib.Dec.{eqb, leb}
-use borrow.Author.Tests.{eqb-true, leb-true, le-leb}
+use lib.Dec.{leb}
+use borrow.Author.Tests.{leb-true, le-leb}
 use Rattle.rules.specs.Workflow.{Workflow}
 use Rattle.rules.specs.Cycle.{Leads}
 use Rattle.rules.specs.Ranks.{R, may-be-next}
 use Rattle.rules.specs.Rows.{Placed, is-placed}
 use Rattle.rules.specs.Method.{Name}
-use Rattle.laws.specs.Tests.{false-unless-true}
-use Rattle.laws.specs.NextTask.{MayBeNext, may-be-next-told, some-may-be-next, held-by-one}
+use Rattle.laws.specs.NextTask.{may-be-next-told, some-may-be-next, held-by-one}
 use Rattle.demands.specs.Ground.GoodWorkflow.{GoodWorkflow}
-use Rattle.demands.specs.Demand2.Order.{HighestLeft, R-at-least}
+use Rattle.demands.specs.Demand2.Order.{R-at-least}
 use Rattle.demands.specs.Demand2.PlacedAt.{PlacedBefore, both-placed, PlacedAt, placed-at, only-tasks}
 use Rattle.demands.specs.Demand2.WhatIsDue.{MethodsPlan}
 

@@ -1,8 +1,8 @@
 -- What the three searches for a reason find: the edge whose data is the last to arrive, the earliest interval that a task would overlap, and the lowest task whose
 -- row it would overlap. Of a workflow, with no word of a plan.
 use Prim.Native.Nat.{ℕ, zero, suc, _+_, _≤_, _<_, max, min}
-use mathlib.Core.Path.{_≡_, refl, sym, ap, ap₂, subst, _∙_}
-use mathlib.Core.Bool.{Bool, true, false, cond, not, _&&_, false≢true, true≢false}
+use mathlib.Core.Path.{_≡_, refl, sym, subst}
+use mathlib.Core.Bool.{Bool, true, false, cond, not, false≢true}
 use mathlib.Core.List.{List, [], _∷_, List·Memᴰ, List·Memᴰ·not-nil, List·Memᴰ·cases-cons, List·Memᴰ·head, List·Memᴰ·tail}
 use mathlib.Core.Logic.{⊎-elim, _≢_}
 use native.Mathlib.Decide.{decLe}
