@@ -9,7 +9,7 @@
     zabgurin_print           11,096 bytes
     zabgurin_print_cheapest  11,096 bytes
     zabgurin_print_heft      11,096 bytes
-    zabgurin_why              9,999 bytes
+    zabgurin_why              8,872 bytes
     zabgurin_plan             8,824 bytes
     zabgurin_cheapest         8,824 bytes
     zabgurin_heft             8,824 bytes
