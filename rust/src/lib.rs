@@ -140,7 +140,7 @@ pub fn range(request: &[u8]) -> Result<Costs, Refusal> {
 
 /// Why a task does not start at a minute, by the plan of [`plan`]; or the refusal of a request that has none. Of data, windows and rows it is the first that stands against it,
 /// and one of them does against every start that is sooner than the task's own.
-pub fn why(request: &[u8], task: usize, start: u64) -> Result<Why, Refusal> {
+pub fn why_not(request: &[u8], task: usize, start: u64) -> Result<Why, Refusal> {
     let mut told = proved::Reason::default();
     // SAFETY: the pointer and the length are one slice's, which is only read, and only during the call; what is told is written.
     unsafe { proved::zabgurin_why(&mut told, request.as_ptr(), request.len(), task, start) };

@@ -71,7 +71,7 @@ fn agree(request: &[u8]) {
     let starts = starts(request);
     for &(task, start) in starts.iter().step_by(1 + starts.len() / 6) {
         let told = why(request, task, start);
-        assert_eq!(zabgurin::why(request, task, start), told, "{task} at {start}: {request:?}");
+        assert_eq!(zabgurin::why_not(request, task, start), told, "{task} at {start}: {request:?}");
     }
     for task in [0, 1, 7, 63, 64, usize::MAX] {
         assert_eq!(zabgurin::label(request, task), compare::label(request, task), "{request:?}");
@@ -147,7 +147,7 @@ fn nothing_lent_and_nothing_sent() {
         assert_eq!(print(&[], &mut []), Err(b"no 1 0\n".len()));
     }
     assert_eq!(zabgurin::range(&[]), Err(Refusal { number: 1, place: 0 }));
-    assert_eq!(zabgurin::why(&[], 0, 0), Err(Refusal { number: 1, place: 0 }));
+    assert_eq!(zabgurin::why_not(&[], 0, 0), Err(Refusal { number: 1, place: 0 }));
     assert!(zabgurin::listed(b'-') && !zabgurin::listed(b';'));
     assert_eq!(zabgurin::label_len(b"prep    ", 0), 4);
 }

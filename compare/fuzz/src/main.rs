@@ -54,7 +54,7 @@ fn agree(request: &[u8], lent: [usize; 4]) {
     };
     let starts = starts(request);
     let whys = starts.iter().step_by(1 + starts.len() / 6).all(|&(task, start)| {
-        told_alike(compare::why_not(request, task, start), zabgurin::why(request, task, start))
+        told_alike(compare::why_not(request, task, start), zabgurin::why_not(request, task, start))
     });
     let labels =
         (0..66).all(|task| zabgurin::label(request, task) == compare::label(request, task));
