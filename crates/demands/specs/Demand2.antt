@@ -3,7 +3,7 @@
 -- which is document 01's where no minutes are 0 (`WithoutZeros`); the choice for each in document 01's words (`ChoiceAsWritten`) and as equation (10)
 -- (`Worthiness`), and that one can always be taken (`Affordable`); the start of each in document 02's words (`StartAsWritten`), its cost by the record
 -- of its processor (`CostAsWritten`), and that no machine runs it in one of the windows that stand in the request (`WindowsAsWritten`);
--- that nothing can be pulled forward (`NothingEarlier`), and that what is said of it is true (`WhyNot`); R and HEFT's rank
+-- that nothing can be pulled forward (`NothingEarlier`), and that what is said of it is true (`WhyNot`) and settled (`WhySettled`); R and HEFT's rank
 -- (`HEFTRank`, `HEFTSettled`); when money is the reason (`RefusalNine`); the cheapest and the HEFT plan, and the budget that a `K` sets (`TwoPlans`); the range that is
 -- told (`BudgetRange`). The other files are what these rest on.
 pub mod Lookup
@@ -36,6 +36,7 @@ pub mod WindowsAsWritten
 pub mod Reasons
 pub mod NothingEarlier
 pub mod WhyNot
+pub mod WhySettled
 pub mod TwoPlans
 pub mod BudgetRange
 use Prim.Native.Nat.{ℕ, _+_, _-_, _≤_, _<_}
