@@ -1,5 +1,3 @@
-pub mod Laws
 pub mod Found
-pub mod RunLaws
 pub mod OptionalLaws
 pub mod RequestLaws

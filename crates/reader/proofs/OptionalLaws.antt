@@ -11,8 +11,8 @@ use Rattle.records.specs.declared.Record as code
 use Rattle.records.specs.declared.RecordAnswer.{RecordAnswer}
 use Rattle.records.specs.declared.RecordAnswer.the-variants as answer
 use Rattle.records.specs.Meaning.{meant}
-use Rattle.reader.specs.declared.Passed.{Passed}
-use Rattle.reader.specs.Meaning.{meant-part, past}
+use Rattle.parts.specs.declared.Passed.{Passed}
+use Rattle.parts.specs.Meaning.{meant-part, past}
 
 module _ {A : Type 0} (s : List ℕ) (kind : Kind) (part : Read Record) (at : ℕ) (given without : A) where
   pub none-there : (byte s at ≡ kind-byte kind → ⊥) → read at without ≡ optional s kind part at given without

@@ -15,10 +15,11 @@ use Rattle.records.specs.declared.Record.the-variants.{Header}
 use Rattle.records.specs.declared.RecordAnswer.{RecordAnswer}
 use Rattle.records.specs.declared.RecordAnswer.the-variants as answer
 use Rattle.records.specs.Meaning.{meant-record, meant}
-use Rattle.reader.specs.declared.Passed.{Passed}
-use Rattle.reader.specs.declared.Passed.the-variants as passed
+use Rattle.parts.specs.declared.Passed.{Passed}
+use Rattle.parts.specs.declared.Passed.the-variants as passed
+use Rattle.parts.specs.Meaning.{meant-part, past}
 use Rattle.reader.specs.declared.Reading.{Reading}
-use Rattle.reader.specs.Meaning.{meant-part, meant-reading, past, refusal-of}
+use Rattle.reader.specs.Meaning.{meant-reading, refusal-of}
 use Rattle.reader.proofs.Found.{header-found}
 
 -- An input with the numbers of its header.

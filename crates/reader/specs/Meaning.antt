@@ -6,10 +6,8 @@ use lib.ListN.{length}
 use Rattle.rules.specs.Records.{read, stopped}
 use Rattle.rules.specs.Records as rules
 use Rattle.rules.specs.Reading as request
-use Rattle.records.specs.declared.RecordAnswer.{RecordAnswer}
-use Rattle.records.specs.declared.RecordAnswer.the-variants as records
-use Rattle.reader.specs.declared.Passed.{Passed}
-use Rattle.reader.specs.declared.Passed.the-variants as passed
+use Rattle.parts.specs.declared.Passed.{Passed}
+use Rattle.parts.specs.declared.Passed.the-variants as passed
 use Rattle.reader.specs.declared.Deadline.{Deadline}
 use Rattle.reader.specs.declared.Deadline.the-variants as deadline
 use Rattle.reader.specs.declared.Share.{Share}
@@ -17,11 +15,6 @@ use Rattle.reader.specs.declared.Share.the-variants as share
 use Rattle.reader.specs.declared.View.{View}
 use Rattle.reader.specs.declared.Reading.{Reading}
 use Rattle.reader.specs.declared.Reading.the-variants as reading
-
--- A part of the request that has a value: the place past it and the value, or the refusal.
-abbrev pub meant-part : {A : Type 0} → Passed → A → rules.Read A
-meant-part (passed.To next) a = read (next .at) a
-meant-part (passed.Refused number place) a = stopped number place
 
 abbrev pub meant-deadline : Deadline → request.Deadline
 meant-deadline deadline.Without = request.no-deadline
@@ -57,11 +50,7 @@ meant-reading s (reading.Refused number place) = stopped number place
 abbrev pub ViewOf : List ℕ → View → Type 0
 ViewOf s v = request.read-request s ≡ read (length s) (meant-view v)
 
--- A refusal handed up: a record's as that of a part, a part's as the request's.
-abbrev pub past : RecordAnswer → Passed
-past (records.Read next r) = passed.To next
-past (records.Refused number place) = passed.Refused number place
-
+-- A part's refusal as the request's.
 abbrev pub refusal-of : Passed → Reading
 refusal-of (passed.To next) = reading.Refused 0 (next .at)
 refusal-of (passed.Refused number place) = reading.Refused number place

@@ -3,6 +3,7 @@ use mathlib.Core.Path.{_≡_, sym, _∙_, ap}
 use mathlib.Core.List.{[], _∷_}
 use Rattle.rules.specs.Reading.{read-request}
 use Rattle.records.specs.Meaning.{meant}
+use Rattle.parts.specs.Settled.{run-means}
 use Rattle.reader.specs.Meaning.{meant-deadline, meant-share, refusal-of}
 use Rattle.reader.proofs.Found.{not-among, header-found}
 use Rattle.reader.proofs.RequestLaws.{Headed, Begun, from-deadline, from-share, from-prices, from-windows, from-tasks, from-edges, from-end, past-end}
@@ -67,7 +68,7 @@ tasks-left : (c : tie.After-known-told6) →
     (c .before .before .before .read-windows .result .count) (c .before .maintained .given .0 .0 .at)
 tasks-left c =
     let before = c .before .before .before in
-    part-read _ _ (windows-left (before .before)) _ _ (before .read-windows .ensures) (c .before .maintained .given .1)
+    part-read _ _ (windows-left (before .before)) _ _ (run-means (before .read-windows .ensures)) (c .before .maintained .given .1)
 
 edges-left : (c : tie.After-known-told7) →
     let maintained = c .before .before .before .before in
@@ -91,7 +92,7 @@ end-left : (c : tie.After-known-told8) →
     (c .before .before .before .read-edges .result .count) (c .before .joined .given .0 .0 .at)
 end-left c =
     let before = c .before .before .before in
-    part-read _ _ (edges-left (before .before)) _ _ (before .read-edges .ensures) (c .before .joined .given .1)
+    part-read _ _ (edges-left (before .before)) _ _ (run-means (before .read-edges .ensures)) (c .before .joined .given .1)
 
 nothing-left : (c : tie.After-known-told9) →
     let joined = c .before .before .before .before in
@@ -211,7 +212,7 @@ refused-requires-6 c κs = search needs
 returns-6 : tie.Need-returns-6
 returns-6 c =
     let before = c .before .before .before in
-    part-refused _ _ (windows-left (before .before)) _ _ (before .read-windows .ensures) (c .before .enum-told5 .given .1) (c .refused6 .ensures)
+    part-refused _ _ (windows-left (before .before)) _ _ (run-means (before .read-windows .ensures)) (c .before .enum-told5 .given .1) (c .refused6 .ensures)
 
 read-tasks-requires : tie.Need-read-tasks-requires
 read-tasks-requires c κs = search needs
@@ -245,7 +246,7 @@ refused-requires-8 c κs = search needs
 returns-8 : tie.Need-returns-8
 returns-8 c =
     let before = c .before .before .before in
-    part-refused _ _ (edges-left (before .before)) _ _ (before .read-edges .ensures) (c .before .enum-told7 .given .1) (c .refused8 .ensures)
+    part-refused _ _ (edges-left (before .before)) _ _ (run-means (before .read-edges .ensures)) (c .before .enum-told7 .given .1) (c .refused8 .ensures)
 
 read-end-requires : tie.Need-read-end-requires
 read-end-requires c κs = search needs

@@ -1,7 +1,7 @@
 -- By the cases of the answer.
 use borrow.Author.Needs.{needs}
-use Rattle.reader.proofs.handed_up.Statement.{statement}
-use Rattle.reader.proofs.handed_up.Tie as tie
+use Rattle.parts.proofs.handed_up.Statement.{statement}
+use Rattle.parts.proofs.handed_up.Tie as tie
 
 enum-known-answer : tie.Need-enum-known-answer
 enum-known-answer c = search needs

@@ -1,9 +1,9 @@
 -- A `T`, and then what `read_row` reads.
 use Rattle.rules.specs.Reading.{then, task-part}
 use borrow.Author.Needs.{needs}
-use Rattle.reader.proofs.read_task.Statement.{statement}
-use Rattle.reader.proofs.read_task.Tie as tie
-use Rattle.reader.proofs.read_task.Reads as reads
+use Rattle.parts.proofs.read_task.Statement.{statement}
+use Rattle.parts.proofs.read_task.Tie as tie
+use Rattle.parts.proofs.read_task.Reads as reads
 
 read-task-requires : tie.Need-read-task-requires
 read-task-requires c κs = search needs

@@ -3,11 +3,11 @@ use mathlib.Core.Path.{ap}
 use Prim.Native.Nat.{_-_}
 use Rattle.rules.specs.Records.{minutes-at}
 use Rattle.records.specs.Meaning.{meant}
-use Rattle.reader.proofs.Laws.{Reached, none-reached, one-more-reached, refused-there, all-reached}
+use Rattle.parts.proofs.Laws.{Reached, none-reached, one-more-reached, refused-there, all-reached}
 use borrow.Author.Needs.{needs}
 use native.Mathlib.Omega.{arith}
-use Rattle.reader.proofs.read_row.Statement.{statement}
-use Rattle.reader.proofs.read_row.Tie as tie
+use Rattle.parts.proofs.read_row.Statement.{statement}
+use Rattle.parts.proofs.read_row.Tie as tie
 
 abbrev Inv-loop : tie.InvT-loop
 Inv-loop s task m next₀ j₀ next j = Reached (λ at j. minutes-at s at task j) (next₀ .at) m j (next .at)

@@ -2,12 +2,12 @@
 use mathlib.Core.Path.{ap}
 use Prim.Native.Nat.{_-_}
 use Rattle.rules.specs.Reading.{task-part, tasks-part}
-use Rattle.reader.specs.Meaning.{meant-part}
-use Rattle.reader.proofs.Laws.{Reached, none-reached, one-more-reached, refused-there, all-reached}
+use Rattle.parts.specs.Meaning.{meant-part}
+use Rattle.parts.proofs.Laws.{Reached, none-reached, one-more-reached, refused-there, all-reached}
 use borrow.Author.Needs.{needs}
 use native.Mathlib.Omega.{arith}
-use Rattle.reader.proofs.read_tasks.Statement.{statement}
-use Rattle.reader.proofs.read_tasks.Tie as tie
+use Rattle.parts.proofs.read_tasks.Statement.{statement}
+use Rattle.parts.proofs.read_tasks.Tie as tie
 
 abbrev Inv-loop : tie.InvT-loop
 Inv-loop s n m next₀ i₀ next i = Reached (task-part s m) (next₀ .at) n i (next .at)

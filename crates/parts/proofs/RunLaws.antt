@@ -10,7 +10,7 @@ use Rattle.rules.specs.Fields.{Kind, kind-byte, size, byte}
 use Rattle.rules.specs.Records.{Record, Read, read, stopped}
 use Rattle.rules.specs.Reading.{then, counted, how-many, run-part}
 use Rattle.good.specs.Reading.{Steps}
-use Rattle.reader.proofs.Laws.{Reached, none-reached, one-more-reached, refused-there}
+use Rattle.parts.proofs.Laws.{Reached, none-reached, one-more-reached, refused-there}
 
 -- Of the records that stand there k were read, up to `next`; the others are those that stand from `next` on.
 pub record Run (s : List ℕ) (kind : Kind) (part : ℕ → ℕ → Read Record) (at most k next : ℕ) : Type 0 where

@@ -4,11 +4,11 @@ use Prim.Native.Nat.{_-_}
 use Rattle.rules.specs.Records.{processor-at}
 use Rattle.rules.specs.Reading.{prices-part}
 use Rattle.records.specs.Meaning.{meant}
-use Rattle.reader.proofs.Laws.{Reached, none-reached, one-more-reached, refused-there, all-reached}
+use Rattle.parts.proofs.Laws.{Reached, none-reached, one-more-reached, refused-there, all-reached}
 use borrow.Author.Needs.{needs}
 use native.Mathlib.Omega.{arith}
-use Rattle.reader.proofs.read_prices.Statement.{statement}
-use Rattle.reader.proofs.read_prices.Tie as tie
+use Rattle.parts.proofs.read_prices.Statement.{statement}
+use Rattle.parts.proofs.read_prices.Tie as tie
 
 abbrev Inv-loop : tie.InvT-loop
 Inv-loop s m next₀ j₀ next j = Reached (processor-at s) (next₀ .at) m j (next .at)
