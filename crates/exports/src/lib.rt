@@ -8,18 +8,15 @@ ghost use Rattle.rules.specs.Text.{text-asked};
 ghost use Rattle.rules.specs.Range.{range};
 ghost use Rattle.rules.specs.Why.{why-not};
 ghost use Rattle.choosing.specs.Named.{meant-method};
-ghost use Rattle.reader.specs.Meaning.{meant-deadline, meant-share};
-ghost use Rattle.planner.specs.Planned.{meant-answer};
 ghost use Rattle.buffers.specs.Into.{four};
-ghost use Rattle.exports.specs.Told.{told-deadline, told-given, told-share, told, told-part, told-answer, PlanTold, told-costs, told-reason, told-why, TextTold};
+ghost use Rattle.told.specs.Told.{told-costs, told-why};
+ghost use Rattle.exports.specs.Told.{told, told-part, PlanTold, TextTold};
 use choosing::Method;
-use planner::Answer;
-use planner::Costs;
-use reader::Deadline;
 use reader::Reading;
-use reader::Share;
-use reasons::Why;
 use text::Printed;
+use told::ZabgurinAnswer;
+use told::ZabgurinCosts;
+use told::ZabgurinWhy;
 
 // Whether a byte stands in the list.
 #[no_mangle]
@@ -57,36 +54,6 @@ pub struct ZabgurinReading {
     pub edges: usize,
 }
 
-// The minutes of a deadline; 0 for none.
-fn deadline_minutes(deadline: Deadline) -> u64
-    ensures { λ r. ⌜ r ≡ told-deadline (meant-deadline deadline) ⌝ }
-{
-    match deadline {
-        Deadline::Without => 0,
-        Deadline::By(minutes) => minutes,
-    }
-}
-
-// 1 for a share, 0 for none.
-fn is_given(share: Share) -> u64
-    ensures { λ r. ⌜ r ≡ told-given (meant-share share) ⌝ }
-{
-    match share {
-        Share::Without => 0,
-        Share::Of(_) => 1,
-    }
-}
-
-// The thousandths of a share; 0 for none.
-fn thousandths(share: Share) -> u64
-    ensures { λ r. ⌜ r ≡ told-share (meant-share share) ⌝ }
-{
-    match share {
-        Share::Without => 0,
-        Share::Of(k) => k,
-    }
-}
-
 // Reads a request.
 #[no_mangle]
 pub extern "C" fn zabgurin_read(request: &[u8]) -> ZabgurinReading
@@ -103,9 +70,9 @@ pub extern "C" fn zabgurin_read(request: &[u8]) -> ZabgurinReading
                 tasks: v.tasks,
                 processors: v.processors,
                 budget: v.budget,
-                deadline: deadline_minutes(deadline),
-                share_given: is_given(share),
-                share: thousandths(share),
+                deadline: told::deadline_minutes(deadline),
+                share_given: told::is_given(share),
+                share: told::thousandths(share),
                 prices_at: v.prices_at,
                 windows_at: v.windows_at,
                 windows: v.windows,
@@ -153,47 +120,6 @@ pub extern "C" fn zabgurin_label(request: &[u8], task: usize) -> ZabgurinPart
     }
 }
 
-// How a request is answered. `number` is that of the refusal, 1 to 9 or 11, with its place; or 0 for a plan, with its number of tasks, its length, its cost and
-// the budget left.
-#[repr(C)]
-pub struct ZabgurinAnswer {
-    pub number: u64,
-    pub place: u64,
-    pub tasks: u64,
-    pub length: u64,
-    pub cost: u64,
-    pub left: u64,
-}
-
-// The numbers of an answer.
-fn answer_told(answer: Answer) -> ZabgurinAnswer
-    ensures { λ r. ⌜ r ≡ told-answer (meant-answer answer) ⌝ }
-{
-    match answer {
-        Answer::Planned {
-            n,
-            length,
-            cost,
-            left,
-        } => ZabgurinAnswer {
-            number: 0,
-            place: 0,
-            tasks: n,
-            length,
-            cost,
-            left,
-        },
-        Answer::Refused { number, place } => ZabgurinAnswer {
-            number,
-            place,
-            tasks: 0,
-            length: 0,
-            cost: 0,
-            left: 0,
-        },
-    }
-}
-
 // Plans a request by a method, its rows in four buffers: row i in the numbers at i. As many rows are lent as the shortest buffer has numbers. A plan writes rows 0
 // to n-1 and keeps what stands after them; a refusal changes nothing.
 fn plan_by(
@@ -207,7 +133,7 @@ fn plan_by(
     ensures { λ r. ⌜ PlanTold (meant-method method) (now (request .entry)) (four (now (processors .entry)) (now (starts .entry)) (now (finishes .entry)) (now (costs .entry))) (four (now (processors .exit)) (now (starts .exit)) (now (finishes .exit)) (now (costs .exit))) r ⌝ }
 {
     let answer = buffers::plan_into(request, method, processors, starts, finishes, costs);
-    answer_told(answer)
+    told::answer_told(answer)
 }
 
 // Plans a request within its budget.
@@ -259,61 +185,13 @@ pub extern "C" fn zabgurin_heft(
     plan_by(request, Method::Heft, processors, starts, finishes, costs)
 }
 
-// What the cheapest plan and the HEFT plan cost. `number` is that of the refusal that both get, 1 to 6 or 8, with its place; or 0, with the costs.
-#[repr(C)]
-pub struct ZabgurinCosts {
-    pub number: u64,
-    pub place: u64,
-    pub cheapest: u64,
-    pub heft: u64,
-}
-
 // The range that a budget is set in, with 64 rows lent.
 #[no_mangle]
 pub extern "C" fn zabgurin_range(request: &[u8]) -> ZabgurinCosts
     ensures { λ r. ⌜ r ≡ told-costs (range (now (request .entry))) ⌝ }
 {
     let costs = asked::range(request);
-    match costs {
-        Costs::Between { cheapest, heft } => ZabgurinCosts {
-            number: 0,
-            place: 0,
-            cheapest,
-            heft,
-        },
-        Costs::Refused { number, place } => ZabgurinCosts {
-            number,
-            place,
-            cheapest: 0,
-            heft: 0,
-        },
-    }
-}
-
-// Why a task does not start at a minute. `number` is that of the refusal, with its place; or 0, with what is so in `reason`. 1: the data from `task` arrives at
-// `begin`; 2: its processor is down from `begin` up to `end`; 3: its processor runs `task` from `begin` up to `end`; 4: its own start is `begin`, so that minute is
-// not sooner; 5: there is no such task, the request has `task` of them. All else is 0.
-#[repr(C)]
-pub struct ZabgurinWhy {
-    pub number: u64,
-    pub place: u64,
-    pub reason: u64,
-    pub task: u64,
-    pub begin: u64,
-    pub end: u64,
-}
-
-fn reason_told(reason: u64, task: u64, begin: u64, end: u64) -> ZabgurinWhy
-    ensures { λ r. ⌜ r ≡ told-reason reason task begin end ⌝ }
-{
-    ZabgurinWhy {
-        number: 0,
-        place: 0,
-        reason,
-        task,
-        begin,
-        end,
-    }
+    told::costs_told(costs)
 }
 
 // Why a task does not start at `start`, in the plan within its budget, with 64 rows lent.
@@ -322,21 +200,7 @@ pub extern "C" fn zabgurin_why(request: &[u8], task: usize, start: u64) -> Zabgu
     ensures { λ r. ⌜ r ≡ told-why (why-not (now (request .entry)) task start) ⌝ }
 {
     let why = sooner::why_not(request, task, start);
-    match why {
-        Why::LateData { from, minute } => reason_told(1, from, minute, 0),
-        Why::InWindow { begin, end } => reason_told(2, 0, begin, end),
-        Why::BesideRow { task, begin, end } => reason_told(3, task, begin, end),
-        Why::OwnStart { start } => reason_told(4, 0, start, 0),
-        Why::NoTask { tasks } => reason_told(5, tasks, 0, 0),
-        Why::NoPlan { number, place } => ZabgurinWhy {
-            number,
-            place,
-            reason: 0,
-            task: 0,
-            begin: 0,
-            end: 0,
-        },
-    }
+    told::why_told(why)
 }
 
 // Prints the plan of a request by a method, with 64 rows lent, or the refusal. Answers how many bytes the text has. Where the buffer has room for them they stand at its

@@ -1,6 +1,6 @@
 -- What the planner leaves, with its answer told.
 use mathlib.Core.Path.{ap, _∙_}
-use Rattle.exports.specs.Told.{told-answer}
+use Rattle.told.specs.Told.{told-answer}
 use borrow.Author.Needs.{needs}
 use Rattle.exports.proofs.plan_by.Statement.{statement}
 use Rattle.exports.proofs.plan_by.Tie as tie

@@ -1,8 +1,8 @@
 -- By the cases of the answer.
 use Rattle.planner.specs.Planned.{meant-answer}
 use borrow.Author.Needs.{needs}
-use Rattle.exports.proofs.answer_told.Statement.{statement}
-use Rattle.exports.proofs.answer_told.Tie as tie
+use Rattle.told.proofs.answer_told.Statement.{statement}
+use Rattle.told.proofs.answer_told.Tie as tie
 
 enum-known-answer : tie.Need-enum-known-answer
 enum-known-answer c = search needs
