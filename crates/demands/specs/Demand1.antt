@@ -40,11 +40,13 @@ use Rattle.rules.specs.Answer.{Outcome, plan, refusal, outcome-asked, refused, 
 use Rattle.rules.specs.Buffers.{Buffers, rows-lent, column-after, buffers-written, buffers-asked}
 use Rattle.rules.specs.Text.{text-asked, program-asked}
 use Rattle.rules.specs.Range.{range, range-text, range-program}
+use Rattle.rules.specs.Why.{why-not, why-text, why-program}
 use Rattle.good.specs.Ranges.{request-most}
 use Rattle.good.specs.ReadIsGood.{read-is-good}
 use Rattle.good.specs.RangeLaws.{good-length}
 use Rattle.good.specs.Labels.{good-label, label-begins}
-use Rattle.good.specs.Program.{answer-asked-first, rows-asked-first, buffers-asked-first, program-asked-is-text, range-first, range-program-is-text, label-lookup-first, label-first}
+use Rattle.good.specs.Program.{answer-asked-first, rows-asked-first, buffers-asked-first, program-asked-is-text, range-first, range-program-is-text}
+use Rattle.good.specs.Program.{why-not-first, why-program-is-text, label-lookup-first, label-first}
 use Rattle.demands.specs.Demand1.Wanted.{task, Passes}
 use Rattle.demands.specs.Demand1.Reads.{Stops}
 use Rattle.demands.specs.Demand1.Stands.{PassesReading}
@@ -89,7 +91,7 @@ no-stray-byte s i = each-member Listed (label s i) (label-byte-listed s i)
 pub good-request-length : (s : List ℕ) {r : Request} → PassesReading s r → length s ≤ request-most
 good-request-length s {r} passes = good-length s r (read-is-good s (read-iff-passes s r .1 passes .1))
 
--- "reads at most 16,384 bytes from standard input; by the size limit its answer is that of the whole input": by each method, and of the range.
+-- "reads at most 16,384 bytes from standard input; by the size limit its answer is that of the whole input": by each method, and of the range and of a start.
 pub record FirstBytesDecide (s : List ℕ) : Type 0 where
   pub answers : (M : Name) (lent : ℕ) → answer-asked M (take 16_384 s) lent ≡ answer-asked M s lent
   pub rows : (M : Name) (lent : List Row) → rows-asked M (take 16_384 s) lent ≡ rows-asked M s lent
@@ -99,6 +101,8 @@ pub record FirstBytesDecide (s : List ℕ) : Type 0 where
   pub texts : (M : Name) → program-asked M s ≡ text-asked M s
   pub ranges : range (take 16_384 s) ≡ range s
   pub range-texts : range-program s ≡ range-text s
+  pub reasons : (i t : ℕ) → why-not (take 16_384 s) i t ≡ why-not s i t
+  pub reason-texts : (i t : ℕ) → why-program s i t ≡ why-text (why-not s i t)
 
 pub first-bytes-decide : (s : List ℕ) → FirstBytesDecide s
 first-bytes-decide s =
@@ -111,6 +115,8 @@ first-bytes-decide s =
       texts = λ M. program-asked-is-text M s;
       ranges = range-first s;
       range-texts = range-program-is-text s;
+      reasons = why-not-first s;
+      reason-texts = why-program-is-text s;
     }
 
 -- What an input and so many rows lent get, by the method that is asked for: the refusal of the first fault, or, for a request that passes reading, what is

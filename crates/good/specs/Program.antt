@@ -9,12 +9,13 @@ use lib.Seq.{take-all}
 use Rattle.rules.specs.Records.{Read, read, stopped}
 use Rattle.rules.specs.Reading.{Request, read-request}
 use Rattle.rules.specs.Labels.{part-of, label-lookup, label}
-use Rattle.rules.specs.Method.{Name, by-cheapest, by-HEFT}
+use Rattle.rules.specs.Method.{Name, by-HBCS, by-cheapest, by-HEFT}
 use Rattle.rules.specs.Rows.{Row}
 use Rattle.rules.specs.Answer.{refusal, outcome-read, outcome-asked, answer-of, answer-asked, rows-asked}
 use Rattle.rules.specs.Buffers.{Buffers, buffers-asked}
 use Rattle.rules.specs.Text.{row-lines, text-asked, program-asked}
 use Rattle.rules.specs.Range.{range, range-line, range-text, range-program}
+use Rattle.rules.specs.Why.{why-of, why-not, why-text, why-program}
 use Rattle.good.specs.ReadIsGood.{read-is-good}
 use Rattle.good.specs.RangeLaws.{good-length}
 use Rattle.good.specs.Labels.{no-label-refused}
@@ -66,6 +67,14 @@ range-first s = rw (answer-asked-first by-cheapest s 64, answer-asked-first by-H
 pub range-program-is-text : (input : List ℕ) → range-program input ≡ range-text input
 unfolding range-program range-text
 range-program-is-text input = ap range-line (range-first input)
+
+pub why-not-first : (s : List ℕ) (i t : ℕ) → why-not (take 16_384 s) i t ≡ why-not s i t
+unfolding why-not
+why-not-first s i t = ap (λ o. why-of o i t) (outcome-asked-first by-HBCS s 64)
+
+pub why-program-is-text : (input : List ℕ) (i t : ℕ) → why-program input i t ≡ why-text (why-not input i t)
+unfolding why-program
+why-program-is-text input i t = ap why-text (why-not-first input i t)
 
 pub label-lookup-first : (s : List ℕ) (i : ℕ) → label-lookup (take 16_384 s) i ≡ label-lookup s i
 label-lookup-first s i = first-alike (λ x. label-lookup x i) (λ s t number place e e′. rw (no-label-refused s i e, no-label-refused t i e′)) s

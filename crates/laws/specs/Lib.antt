@@ -9,6 +9,7 @@ pub mod Overwritten
 pub mod Orders
 pub mod First
 pub mod Strict
+pub mod Highest
 pub mod Method
 pub mod Leads
 pub mod Cycles

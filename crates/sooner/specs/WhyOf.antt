@@ -10,9 +10,9 @@ use Rattle.rules.specs.Rows.{Placed, row-of}
 use Rattle.rules.specs.Start.{arrival, arrived}
 use Rattle.rules.specs.Method.{by-HBCS}
 use Rattle.rules.specs.Budget.{in-force, held-to}
-use Rattle.rules.specs.Answer.{Outcome, plan, refusal, answer-of}
+use Rattle.rules.specs.Answer.{Outcome, answer-of}
 use Rattle.rules.specs.Answer as answers
-use Rattle.rules.specs.Why.{no-task, no-plan, last-to-arrive, lowest-met, why-placed, why-of}
+use Rattle.rules.specs.Why.{no-task, last-to-arrive, lowest-met, why-placed, why-of}
 use Rattle.good.specs.Ranges.{InRange}
 use Rattle.laws.specs.Bounds.{finish-most}
 use Rattle.laws.specs.Stores.{at}
@@ -26,12 +26,6 @@ use Rattle.planner.specs.declared.Answer.{Answer}
 use Rattle.planner.specs.declared.Answer.the-variants as answer
 use Rattle.planner.specs.Planned.{meant-answer, rows-in, PlanOf}
 use Rattle.bounds.specs.PlanBounds.{row-bounds, length-at-most}
-
--- A refusal is told as it stands.
-pub refusal-told : (o : Outcome) (i t : ℕ) {number place : ℕ} → answers.refused number place ≡ answer-of o → no-plan number place ≡ why-of o i t
-unfolding answer-of why-of
-refusal-told (plan W rows) i t e = let z : _≡_ {A = ℕ} 0 1 = cc in absurd (omega arith)
-refusal-told (refusal number place) i t e = cc
 
 -- What is in force changes no reason.
 why-held :

@@ -22,6 +22,7 @@ use Rattle.rules.specs.Answer.{planned, answer-asked, rows-asked}
 use Rattle.rules.specs.Buffers.{Buffers, rows-lent, row-in, buffers-asked}
 use Rattle.laws.specs.Numbers.{below-or-on}
 use Rattle.laws.specs.Folds.{largest-attained}
+use Rattle.laws.specs.Highest.{largest-of-some}
 use Rattle.laws.specs.Free.{overlap-has-common, common-overlaps, free-told, InTheWay, met-unless-free}
 use Rattle.laws.specs.StartLaws.{start-is}
 use Rattle.demands.specs.Ground.GoodWorkflow.{good-workflow}
@@ -30,7 +31,6 @@ use Rattle.demands.specs.Demand2.Lookup.{new-placed, old-placed, old-row
 use Rattle.demands.specs.Demand2.Arrived.{ready-same}
 use Rattle.demands.specs.Demand2.Steps.{EachStep, AsTheMethod}
 use Rattle.demands.specs.Demand2.PlacedAt.{new-row, both-placed, PlacedAt, placed-at, only-tasks}
-use Rattle.demands.specs.Demand2.Reasons.{largest-of-some}
 use Rattle.demands.specs.Demand2.WindowsAsWritten.{windows-held, listed-window, no-row-in-a-window}
 use Rattle.demands.specs.Demand2.{PlanGot, plan-in-rows, plan-in-buffers}
 

@@ -1,11 +1,10 @@
 -- What the three searches for a reason find: the edge whose data is the last to arrive, the earliest interval that a task would overlap, and the lowest task whose
 -- row it would overlap. Of a workflow, with no word of a plan.
-use Prim.Native.Nat.{ℕ, zero, suc, _+_, _≤_, _<_, max, min}
+use Prim.Native.Nat.{ℕ, _+_, _≤_, _<_, max, min}
 use mathlib.Core.Path.{_≡_, refl, sym, subst}
-use mathlib.Core.Bool.{Bool, true, false, cond, not, false≢true}
+use mathlib.Core.Bool.{Bool, true, false, cond, not}
 use mathlib.Core.List.{List, [], _∷_, List·Memᴰ, List·Memᴰ·not-nil, List·Memᴰ·cases-cons, List·Memᴰ·head, List·Memᴰ·tail}
 use mathlib.Core.Logic.{⊎-elim, _≢_}
-use native.Mathlib.Decide.{decLe}
 use native.Mathlib.Omega.{arith}
 use lib.Dec.{eqb, ltb}
 use borrow.Author.Tests.{ltb-true, ltb-false, lt-ltb, eqb-true, eqb-false, eq-eqb, ne-eqb, not-true}
@@ -15,41 +14,9 @@ use Rattle.rules.specs.Workflow.{Interval, Workflow}
 use Rattle.rules.specs.Start.{arrival, awaited, arrived, minutes-from, Overlap, overlap}
 use Rattle.rules.specs.Why.{last-to-arrive, Met, none, met, earlier, earliest-met, meets-row, lowest-met}
 use Rattle.laws.specs.Tests.{and-both}
-use Rattle.laws.specs.Folds.{at-most-largest, largest-at-most}
-use Rattle.laws.specs.Orders.{higher-true, higher-false}
 use Rattle.laws.specs.First.{first-below, first-passes}
-use Rattle.laws.specs.Strict.{Strict, tie-strict, higher-strict, first-unbeaten, first-beats-lower, first-among-lowest}
-
-pub largest-of-some : (k : ℕ) (f : ℕ → ℕ) → 0 < largest k f → 1 ≤ k
-unfolding largest
-largest-of-some zero f above = absurd (omega arith)
-largest-of-some (suc k) f above = omega arith
-
--- The first of the highest figures: the largest of them, where that is above 0, and no lower number has it.
-module _ (k : ℕ) (f : ℕ → ℕ) (above : 0 < largest k f) where
-  abbrev pub the-highest : ℕ
-  the-highest = first k (higher f tie)
-
-  strict : Strict (higher f tie)
-  strict = higher-strict f tie-strict
-
-  highest-below : the-highest < k
-  highest-below = first-below k (higher f tie) (largest-of-some k f above)
-
-  highest-is-largest : f the-highest ≡ largest k f
-  highest-is-largest =
-      let each : (e : ℕ) → e < k → f e ≤ f the-highest = λ e l. higher-false f tie e the-highest .0 (first-unbeaten strict k e l) .0 in
-      omega (arith, largest-at-most k f (f the-highest) each, at-most-largest k f the-highest highest-below)
-
-  highest-is-first : (e : ℕ) → f e ≡ f the-highest → the-highest ≤ e
-  unfolding tie
-  highest-is-first e same = go (decLe the-highest e)
-    where
-      go : Dec (the-highest ≤ e) → the-highest ≤ e
-      go (yes l) = l
-      go (no lower) =
-          absurd (⊎-elim (λ (h : f e < f the-highest). omega arith) (λ h. false≢true (h .1))
-          (higher-true f tie the-highest e (first-beats-lower strict k e (omega arith))))
+use Rattle.laws.specs.Strict.{tie-strict, first-among-lowest}
+use Rattle.laws.specs.Highest.{largest-of-some, highest-below, highest-is-largest, highest-is-first}
 
 -- The edge whose data is the last to arrive.
 pub record LastToArrive (W : Workflow) (sits ends : ℕ → ℕ) (i j e : ℕ) : Type 0 where
@@ -61,10 +28,13 @@ pub record LastToArrive (W : Workflow) (sits ends : ℕ → ℕ) (i j e : ℕ) :
 pub last-is-last :
     (W : Workflow) (sits ends : ℕ → ℕ) (i j : ℕ) → 0 < arrived W sits ends i j → LastToArrive W sits ends i j (last-to-arrive W sits ends i j)
 unfolding last-to-arrive arrived
-last-is-last W sits ends i j some = go (eqb (W .to e) i) refl (highest-is-largest (W .edges) f some)
+last-is-last W sits ends i j above = go (eqb (W .to e) i) refl (highest-is-largest (W .edges) f some)
   where
     f : ℕ → ℕ
     f = awaited W sits ends i j
+
+    some : 1 ≤ W .edges
+    some = largest-of-some (W .edges) (awaited W sits ends i j) above
 
     e : ℕ
     e = first (W .edges) (higher f tie)

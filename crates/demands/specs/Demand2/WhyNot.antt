@@ -265,10 +265,11 @@ module _ {s : List ℕ} {lent n l c left : ℕ} {row : ℕ → Row} (got : PlanG
         rw (as-with-64, le-ltb i (workflow-got .tasks) beyond) (ap no-task (sym (got .held .tasks)))
 
 -- A request that has no plan has its refusal told.
+pub why-of-refused : (o : Outcome) {number place : ℕ} → answer-of o ≡ refused number place → (i t : ℕ) → why-of o i t ≡ no-plan number place
+unfolding why-of answer-of
+why-of-refused (plan W rows) e i t = let z : _≡_ {A = ℕ} 0 1 = cc in absurd (omega arith)
+why-of-refused (refusal number place) e i t = cc
+
 pub why-not-refused : (s : List ℕ) {number place : ℕ} → answer s 64 ≡ refused number place → (i t : ℕ) → why-not s i t ≡ no-plan number place
-unfolding why-not why-of answer-asked answer-of
-why-not-refused s {number} {place} e i t = go (outcome s 64) e
-  where
-    go : (o : Outcome) → answer-of o ≡ refused number place → why-of o i t ≡ no-plan number place
-    go (plan W rows) is = let z : _≡_ {A = ℕ} 0 1 = cc in absurd (omega arith)
-    go (refusal number′ place′) is = let one : number′ ≡ number = cc in let other : place′ ≡ place = cc in rw (one, other) refl
+unfolding why-not answer-asked
+why-not-refused s = why-of-refused (outcome s 64)

@@ -9,7 +9,7 @@ use Rattle.rules.specs.Why.{last-to-arrive}
 use Rattle.laws.specs.Stores.{at}
 use Rattle.laws.specs.Folds.{largest-next}
 use Rattle.lookup.specs.Lookup.{workflow-of}
-use Rattle.reasons.specs.ArrivalLaws.{highest-next}
+use Rattle.laws.specs.Highest.{highest-next}
 use borrow.Author.Needs.{needs}
 use native.Mathlib.Omega.{arith}
 use Rattle.reasons.proofs.last_to_arrive.Statement.{statement}

@@ -1,4 +1,5 @@
 -- By the cases of the answer; where it is a plan, the arrays hold its rows.
+use mathlib.Core.Path.{sym}
 use Prim.Native.Nat.{_≤_}
 use Rattle.rules.specs.Workflow.{workflow}
 use Rattle.rules.specs.Method.{by-HBCS}
@@ -13,7 +14,8 @@ use Rattle.planner.specs.declared.Planning.{Planning}
 use Rattle.planner.specs.Planned.{meant-answer, planned-in, workflow-by}
 use Rattle.bounds.specs.AnswerBounds.{in-force-is-in-range}
 use Rattle.reasons.specs.Meant.{meant-why}
-use Rattle.sooner.specs.WhyOf.{RowsOf, refusal-told, plan-told}
+use Rattle.demands.specs.Demand2.WhyNot.{why-of-refused}
+use Rattle.sooner.specs.WhyOf.{RowsOf, plan-told}
 use borrow.Author.Needs.{needs}
 use native.Mathlib.Omega.{arith}
 use Rattle.sooner.proofs.why_good.Statement.{statement}
@@ -50,7 +52,7 @@ returns : tie.Need-returns
 unfolding meant-why meant-answer meant-method
 returns c =
     let planned = c .before .before .before in
-    refusal-told _ _ _ (rw (c .before .answer .given .1) at (planned .plan-good .ensures .answer-is))
+    sym (why-of-refused _ (sym (rw (c .before .answer .given .1) at (planned .plan-good .ensures .answer-is))) _ _)
 
 enum-told : tie.Need-enum-told
 enum-told c = search needs
