@@ -1,11 +1,11 @@
 // The plan of a request by the method that is asked for, and the range that a budget is set in: of every byte string.
 ghost use Rattle.std.specs.Prelude.{◌≡◌, []};
-ghost use Rattle.rules.specs.Answer.{outcome-asked, answer-asked};
+ghost use Rattle.rules.specs.Answer.{outcome_asked, answer_asked};
 ghost use Rattle.rules.specs.Range as rules;
-ghost use Rattle.rules.specs.Range.{range-of};
-ghost use Rattle.choosing.specs.Named.{meant-method};
+ghost use Rattle.rules.specs.Range.{range_of};
+ghost use Rattle.choosing.specs.Named.{meant_method};
 ghost use Rattle.placing.specs.Placed.{Columns};
-ghost use Rattle.planner.specs.Planned.{meant-answer, meant-costs, PlanOf, planned-in};
+ghost use Rattle.planner.specs.Planned.{meant_answer, meant_costs, PlanOf, planned_in};
 
 use choosing::Method;
 use planner::{Answer, Costs, Planning};
@@ -23,7 +23,7 @@ pub fn plan_columns(
     costs: &mut [u64; 64],
 ) -> Answer
     requires { Columns [] processors.old starts.old finishes.old costs.old }
-    ensures { PlanOf (outcome-asked (meant-method method) request.now lent) (planned-in processors.new starts.new finishes.new costs.new result) }
+    ensures { PlanOf (outcome_asked (meant_method method) request.now lent) (planned_in processors.new starts.new finishes.new costs.new result) }
 {
     let reading = reader::read_request(request);
     match reading {
@@ -39,7 +39,7 @@ pub fn plan_columns(
 
 // The plan of a request by a method, with so many rows lent, by value.
 pub fn plan(request: &[u8], method: Method, lent: usize) -> Planning
-    ensures { PlanOf (outcome-asked (meant-method method) request.now lent) result }
+    ensures { PlanOf (outcome_asked (meant_method method) request.now lent) result }
 {
     let mut processors = [0u64; 64];
     let mut starts = [0u64; 64];
@@ -65,7 +65,7 @@ pub fn plan(request: &[u8], method: Method, lent: usize) -> Planning
 
 // The answer by a method with 64 rows lent, which are not looked at.
 fn answered(request: &[u8], method: Method) -> Answer
-    ensures { meant-answer result ≡ answer-asked (meant-method method) request.now 64 }
+    ensures { meant_answer result ≡ answer_asked (meant_method method) request.now 64 }
 {
     let mut processor_of = [0u64; 64];
     let mut start_of = [0u64; 64];
@@ -84,7 +84,7 @@ fn answered(request: &[u8], method: Method) -> Answer
 
 // What two answers cost.
 fn costs_of(cheapest: Answer, heft: Answer) -> Costs
-    ensures { meant-costs result ≡ range-of (meant-answer cheapest) (meant-answer heft) }
+    ensures { meant_costs result ≡ range_of (meant_answer cheapest) (meant_answer heft) }
 {
     match cheapest {
         Answer::Planned {
@@ -110,7 +110,7 @@ fn costs_of(cheapest: Answer, heft: Answer) -> Costs
 
 // The range that a budget is set in: what the cheapest plan and the HEFT plan cost, each asked for alone.
 pub fn range(request: &[u8]) -> Costs
-    ensures { meant-costs result ≡ rules.range request.now }
+    ensures { meant_costs result ≡ rules.range request.now }
 {
     let cheapest = answered(request, Method::Cheapest);
     let heft = answered(request, Method::Heft);

@@ -4,53 +4,53 @@ use Rattle.std.proofs.Common.{ap}
 use mathlib.Core.List.{List, [], ◌∷◌}
 use native.Mathlib.Omega.{arith}
 use Rattle.rules.specs.Workflow.{Workflow}
-use Rattle.rules.specs.Rows.{Row, Placed, row_of, spent, length-of}
+use Rattle.rules.specs.Rows.{Row, Placed, row_of, spent, length_of}
 use Rattle.rules.specs.Method.{Name}
 use Rattle.rules.specs.Placing.{row_on}
 use Rattle.good.specs.Ranges.{InRange}
-use Rattle.laws.specs.Bounds.{first-most, added-most, finish-most, cost-most, total-most}
-use Rattle.laws.specs.Folds.{sum-at-most-each}
-use Rattle.laws.specs.LatestFinish.{finish-in-length, length-in-reach}
+use Rattle.laws.specs.Bounds.{first_most, added_most, finish_most, cost_most, total_most}
+use Rattle.laws.specs.Folds.{sum_at_most_each}
+use Rattle.laws.specs.LatestFinish.{finish_in_length, length_in_reach}
 use Rattle.demands.specs.Demand2.Steps.{EachStep, AsTheMethod}
 use Rattle.demands.specs.Demand2.WhatIsDue.{MethodsPlan}
-use Rattle.costs.specs.CostLaws.{cost-at-most}
+use Rattle.costs.specs.CostLaws.{cost_at_most}
 
 pub record RowBounds (r : Row) : Type 0 where
-  pub processor-in : r.processor ≤ 15
-  pub start-in : r.start ≤ finish-most
-  pub finish-in : r.finish ≤ finish-most
-  pub cost-in : r.cost ≤ cost-most
+  pub processor_in : r.processor ≤ 15
+  pub start_in : r.start ≤ finish_most
+  pub finish_in : r.finish ≤ finish_most
+  pub cost_in : r.cost ≤ cost_most
 
 module _ (W : Workflow) (range : InRange W) where
-  length-by-steps : (M : Name) (rows : List Placed) → EachStep (AsTheMethod M W) rows → length-of rows ≤ first-most + added-most * length rows
-  unfolding length-of row_on
-  length-by-steps M [] steps = omega arith
-  length-by-steps M (p ∷ before) (step, steps) =
+  length_by_steps : (M : Name) (rows : List Placed) → EachStep (AsTheMethod M W) rows → length_of rows ≤ first_most + added_most * length rows
+  unfolding length_of row_on
+  length_by_steps M [] steps = omega arith
+  length_by_steps M (p ∷ before) (step, steps) =
       omega (
         arith,
-        length-in-reach W range.minutes-most range.transfer-in range.clock-in range.first-end-in p before (length before) p.task p.row.processor
+        length_in_reach W range.minutes_most range.transfer_in range.clock_in range.first_end_in p before (length before) p.task p.row.processor
             (ap (λ (r : Row). r.finish) step.row)
-            (length-by-steps M before steps),
+            (length_by_steps M before steps),
       )
 
   module _ {M : Name} {rows : List Placed} (p : MethodsPlan M W rows) where
-    pub length-at-most : length-of rows ≤ finish-most
-    length-at-most = omega (arith, length-by-steps M rows p.steps, p.none-twice, range.tasks-in.to_high)
+    pub length_at_most : length_of rows ≤ finish_most
+    length_at_most = omega (arith, length_by_steps M rows p.steps, p.none-twice, range.tasks_in.to_high)
 
-    row-cost-at-most : (i : ℕ) → i < W.tasks → (row_of rows i).cost ≤ cost-most
-    row-cost-at-most i l = omega (arith, (p.rows_true i l).cost, cost-at-most W range i (row_of rows i).processor)
+    row_cost_at_most : (i : ℕ) → i < W.tasks → (row_of rows i).cost ≤ cost_most
+    row_cost_at_most i l = omega (arith, (p.rows_true i l).cost, cost_at_most W range i (row_of rows i).processor)
 
-    pub cost-at-most-in-all : spent rows ≤ total-most
-    cost-at-most-in-all =
-        omega (arith, p.cost-sum, sum-at-most-each W.tasks (λ i. (row_of rows i).cost) cost-most row-cost-at-most, range.tasks-in.to_high)
+    pub cost_at_most_in_all : spent rows ≤ total_most
+    cost_at_most_in_all =
+        omega (arith, p.cost_sum, sum_at_most_each W.tasks (λ i. (row_of rows i).cost) cost_most row_cost_at_most, range.tasks_in.to_high)
 
-    pub row-bounds : (i : ℕ) → i < W.tasks → RowBounds (row_of rows i)
-    row-bounds i l =
-        let true-row = p.rows_true i l in
-        let finish : (row_of rows i).finish ≤ finish-most = omega (arith, finish-in-length rows i, length-at-most) in
+    pub row_bounds : (i : ℕ) → i < W.tasks → RowBounds (row_of rows i)
+    row_bounds i l =
+        let true_row = p.rows_true i l in
+        let finish : (row_of rows i).finish ≤ finish_most = omega (arith, finish_in_length rows i, length_at_most) in
         record {
-          processor-in = omega (arith, true-row.processor, range.processors-in.to_high);
-          start-in = omega (arith, true-row.finish);
-          finish-in = finish;
-          cost-in = row-cost-at-most i l;
+          processor_in = omega (arith, true_row.processor, range.processors_in.to_high);
+          start_in = omega (arith, true_row.finish);
+          finish_in = finish;
+          cost_in = row_cost_at_most i l;
         }

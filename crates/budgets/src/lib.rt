@@ -1,14 +1,14 @@
 // What every plan is made of, whatever its answer: the budget that is in force, and all tasks placed, once what this takes is computed.
 ghost use Rattle.std.specs.Prelude.{◌≤◌, ◌≡◌, []};
-ghost use Rattle.rules.specs.Reading.{no-deadline};
-ghost use Rattle.rules.specs.Budget.{in-force, budget-between, budget-of};
-ghost use Rattle.rules.specs.Answer.{too-late};
-ghost use Rattle.laws.specs.Bounds.{total-most, budget-most};
-ghost use Rattle.choosing.specs.Named.{meant-method};
-ghost use Rattle.reader.specs.Meaning.{meant-deadline, meant-share};
-ghost use Rattle.lookup.specs.Lookup.{workflow-of};
+ghost use Rattle.rules.specs.Reading.{no_deadline};
+ghost use Rattle.rules.specs.Budget.{in_force, budget_between, budget_of};
+ghost use Rattle.rules.specs.Answer.{too_late};
+ghost use Rattle.laws.specs.Bounds.{total_most, budget_most};
+ghost use Rattle.choosing.specs.Named.{meant_method};
+ghost use Rattle.reader.specs.Meaning.{meant_deadline, meant_share};
+ghost use Rattle.lookup.specs.Lookup.{workflow_of};
 ghost use Rattle.placing.specs.Placed.{Columns, PlacedAs};
-ghost use Rattle.budgets.specs.Prepared.{Prepared, held-to-none};
+ghost use Rattle.budgets.specs.Prepared.{Prepared, held_to_none};
 
 use choosing::Method;
 use placing::Placing;
@@ -16,7 +16,7 @@ use reader::{Deadline, Share, View};
 
 // "length above the deadline"
 pub fn too_late(deadline: Deadline, length: u64) -> bool
-    ensures { result ≡ too-late (meant-deadline deadline) length }
+    ensures { result ≡ too_late (meant_deadline deadline) length }
 {
     match deadline {
         Deadline::Without => false,
@@ -41,9 +41,9 @@ pub fn place_all<'a>(
     costs: &mut [u64; 64],
 ) -> Placing
     requires prepared { Prepared s.now v prices.now minimums.now ranks.now edges_at.now cheapest }
-    requires budget_le_budget_most { budget ≤ budget-most }
+    requires budget_le_budget_most { budget ≤ budget_most }
     requires columns { Columns [] processors.old starts.old finishes.old costs.old }
-    ensures { PlacedAs (meant-method method) (in-force budget no-deadline (workflow-of s.now v)) processors.new starts.new finishes.new costs.new result }
+    ensures { PlacedAs (meant_method method) (in_force budget no_deadline (workflow_of s.now v)) processors.new starts.new finishes.new costs.new result }
 {
     let outset = downtime::busy_at_first(s, v);
     let clock: u64 = 0;
@@ -70,8 +70,8 @@ pub fn no_rows(
 
 // "budget = cheapest + floor(k x (HEFT cost - cheapest) / 1000)"
 fn budget_between(k: u64, cheapest: u64, heft_cost: u64) -> u64
-    requires { (k ≤ 1_000) × (cheapest ≤ total-most) × (heft_cost ≤ total-most) }
-    ensures { (result ≡ budget-between k cheapest heft_cost) × (result ≤ budget-most) }
+    requires { (k ≤ 1_000) × (cheapest ≤ total_most) × (heft_cost ≤ total_most) }
+    ensures { (result ≡ budget_between k cheapest heft_cost) × (result ≤ budget_most) }
 {
     cheapest + k * numbers::less(heft_cost, cheapest) / 1_000
 }
@@ -92,7 +92,7 @@ pub fn budget_of<'a>(
 ) -> u64
     requires prepared { Prepared s.now v prices.now minimums.now ranks.now edges_at.now cheapest }
     requires columns { Columns [] processors.old starts.old finishes.old costs.old }
-    ensures { (result ≡ budget-of (meant-share v.share) (workflow-of s.now v)) × (result ≤ budget-most) × Columns [] processors.new starts.new finishes.new costs.new }
+    ensures { (result ≡ budget_of (meant_share v.share) (workflow_of s.now v)) × (result ≤ budget_most) × Columns [] processors.new starts.new finishes.new costs.new }
 {
     let share = v.share;
     let Share::Of(k) = share else {
@@ -119,7 +119,7 @@ pub fn budget_of<'a>(
 
 // Whether a method is held to no budget.
 pub fn alone(method: Method) -> bool
-    ensures { result ≡ held-to-none (meant-method method) }
+    ensures { result ≡ held_to_none (meant_method method) }
 {
     match method {
         Method::Hbcs => false,

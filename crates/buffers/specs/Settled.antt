@@ -5,10 +5,10 @@ use Rattle.std.proofs.Common.{sym, ◌∙◌}
 use Rattle.rules.specs.Method.{Name}
 use Rattle.rules.specs.Buffers.{Buffers}
 use Rattle.planner.specs.declared.Answer.{Answer}
-use Rattle.planner.specs.Settled.{answer-settled}
+use Rattle.planner.specs.Settled.{answer_settled}
 use Rattle.buffers.specs.Into.{PlannedInto}
 
-pub planned-into-settled :
+pub planned_into_settled :
     (M : Name) (s : List ℕ) (lent a b : Buffers) (r t : Answer) → PlannedInto M s lent a r → PlannedInto M s lent b t → (a ≡ b) × (r ≡ t)
-planned-into-settled M s lent a b r t one other =
-    (one.after_is ∙ sym other.after_is, answer-settled r t (one.answer-is ∙ sym other.answer-is))
+planned_into_settled M s lent a b r t one other =
+    (one.after_is ∙ sym other.after_is, answer_settled r t (one.answer_is ∙ sym other.answer_is))

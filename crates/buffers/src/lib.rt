@@ -2,7 +2,7 @@
 ghost use Rattle.std.specs.Prelude.{◌≡◌, ◌++◌, ◌≤◌, min, length, drop};
 ghost use Rattle.rules.specs.Folds.{listing};
 ghost use Rattle.laws.specs.Stores.{at};
-ghost use Rattle.choosing.specs.Named.{meant-method};
+ghost use Rattle.choosing.specs.Named.{meant_method};
 ghost use Rattle.buffers.specs.Into.{four, PlannedInto};
 
 use choosing::Method;
@@ -40,7 +40,7 @@ pub fn plan_into(
     finishes: &mut [u64],
     costs: &mut [u64],
 ) -> Answer
-    ensures { PlannedInto (meant-method method) request.now (four processors.old starts.old finishes.old costs.old) (four processors.new starts.new finishes.new costs.new) result }
+    ensures { PlannedInto (meant_method method) request.now (four processors.old starts.old finishes.old costs.old) (four processors.new starts.new finishes.new costs.new) result }
 {
     let lent = shortest(processors.len(), starts.len(), finishes.len(), costs.len());
     let mut processor_of = [0u64; 64];

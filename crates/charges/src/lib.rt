@@ -1,9 +1,9 @@
 // What the processors of a good request charge, read once for a plan: one walks over their records, each as long as its kind.
 ghost use Rattle.std.specs.Prelude.{◌+◌, ◌≤◌, length};
 ghost use Rattle.rules.specs.Fields.{size};
-ghost use Rattle.rules.specs.Workflow.{processor-kind};
+ghost use Rattle.rules.specs.Workflow.{processor_kind};
 ghost use Rattle.reader.specs.Meaning.{ViewOf};
-ghost use Rattle.lookup.specs.Lookup.{workflow-of};
+ghost use Rattle.lookup.specs.Lookup.{workflow_of};
 ghost use Rattle.charges.specs.Charges.{ChargeAt, ChargesOf};
 
 use reader::View;
@@ -18,7 +18,7 @@ struct Charge {
 
 // The processor record at `at`: "a `P` has minimum 0".
 fn charge_at(s: &[u8], at: usize) -> Charge
-    requires { at + size (processor-kind s.now at) ≤ length s.now }
+    requires { at + size (processor_kind s.now at) ≤ length s.now }
     ensures { ChargeAt s.now at result.price result.minimum result.next }
 {
     let price = fields::field(s, at, 2) as u64;
@@ -47,7 +47,7 @@ pub struct Charges {
 // The prices and the minimums of a good request's processors.
 pub fn charges_of(s: &[u8], v: View) -> Charges
     requires { ViewOf s.now v }
-    ensures { ChargesOf (workflow-of s.now v) result.prices result.minimums }
+    ensures { ChargesOf (workflow_of s.now v) result.prices result.minimums }
 {
     let mut prices = [0u64; 16];
     let mut minimums = [0u64; 16];

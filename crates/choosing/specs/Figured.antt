@@ -2,9 +2,9 @@
 use Rattle.std.specs.Prelude.{ℕ, ◌+◌, ◌*◌, ◌-◌, ◌≤◌, ◌<◌, max, min, ◌≡◌, Bool, cond, ◌&&◌, leb}
 use Rattle.rules.specs.Folds.{largest, lowest}
 use Rattle.rules.specs.Orders.{Order, tie, lower, first}
-use Rattle.rules.specs.Method.{Question, or-one, may-be-taken, score}
+use Rattle.rules.specs.Method.{Question, or_one, may_be_taken, score}
 use Rattle.laws.specs.Bounds as bounds
-use Rattle.laws.specs.Bounds.{asked-finish-most, cost-most, total-most, budget-most}
+use Rattle.laws.specs.Bounds.{asked_finish_most, cost_most, total_most, budget_most}
 use Rattle.choosing.specs.declared.figures.Figures.{Figures}
 use Rattle.choosing.specs.declared.figures.Weights.{Weights}
 
@@ -40,30 +40,30 @@ pub record Passed (g : Figures) (cost finish : ℕ) (r : Figures) : Type 0 where
 
 -- So that no score wraps.
 pub record FiguresInRange (g : Figures) : Type 0 where
-  pub best : g.best ≤ cost-most
-  pub latest : g.latest ≤ asked-finish-most
-  pub highest : g.highest ≤ cost-most
-  pub rb : g.rb ≤ budget-most
-  pub rcb : g.rcb ≤ total-most
+  pub best : g.best ≤ cost_most
+  pub latest : g.latest ≤ asked_finish_most
+  pub highest : g.highest ≤ cost_most
+  pub rb : g.rb ≤ budget_most
+  pub rcb : g.rcb ≤ total_most
 
 pub record Weighed (g : Figures) (w : Weights) : Type 0 where
-  pub saved : w.saved ≡ g.rcb * or-one (g.latest - g.earliest)
-  pub early : w.early ≡ or-one (g.highest - g.lowest) * or-one g.rb
-  pub saved-most : w.saved ≤ bounds.saved-most
-  pub early-most : w.early ≤ bounds.early-most
+  pub saved : w.saved ≡ g.rcb * or_one (g.latest - g.earliest)
+  pub early : w.early ≡ or_one (g.highest - g.lowest) * or_one g.rb
+  pub saved_most : w.saved ≤ bounds.saved_most
+  pub early_most : w.early ≤ bounds.early_most
 
--- `may-be-taken` and `score` of the rules, by the figures.
-unfoldable pub may-by : Figures → ℕ → Bool
-may-by g cost = leb cost g.best && leb (cost + g.rcb) g.rb
+-- `may_be_taken` and `score` of the rules, by the figures.
+unfoldable pub may_by : Figures → ℕ → Bool
+may_by g cost = leb cost g.best && leb (cost + g.rcb) g.rb
 
-unfoldable pub score-by : Figures → ℕ → ℕ → ℕ
-score-by g cost finish =
-    (g.best - cost) * g.rcb * or-one (g.latest - g.earliest)
-    + (g.latest - finish) * or-one (g.highest - g.lowest) * or-one g.rb
+unfoldable pub score_by : Figures → ℕ → ℕ → ℕ
+score_by g cost finish =
+    (g.best - cost) * g.rcb * or_one (g.latest - g.earliest)
+    + (g.latest - finish) * or_one (g.highest - g.lowest) * or_one g.rb
 
 unfoldable pub standing_by : Figures → ℕ → ℕ → ℕ
-standing_by g cost finish = cond (may-by g cost) (score-by g cost finish + 1) 0
+standing_by g cost finish = cond (may_by g cost) (score_by g cost finish + 1) 0
 
 -- The standing of a processor: 1 more than its score where it may be taken, else 0.
 unfoldable pub standing : Question → ℕ → ℕ
-standing q j = cond (may-be-taken q j) (score q j + 1) 0
+standing q j = cond (may_be_taken q j) (score q j + 1) 0

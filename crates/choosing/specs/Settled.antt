@@ -6,8 +6,8 @@ use Rattle.choosing.specs.declared.figures.Figures.{Figures}
 use Rattle.choosing.specs.declared.figures.Weights.{Weights}
 use Rattle.choosing.specs.Figured.{FiguresOf, Weighed}
 
-pub figures-settled : {q : Question} {k : ℕ} {a b : Figures} → FiguresOf q k a → FiguresOf q k b → a ≡ b
-figures-settled one other =
+pub figures_settled : {q : Question} {k : ℕ} {a b : Figures} → FiguresOf q k a → FiguresOf q k b → a ≡ b
+figures_settled one other =
     λ t. record {
       rb = (one.RB ∙ sym other.RB) t;
       rcb = (one.RCB ∙ sym other.RCB) t;
@@ -18,6 +18,6 @@ figures-settled one other =
       highest = (one.highest ∙ sym other.highest) t;
     }
 
-pub weights-settled : {g : Figures} {a b : Weights} → Weighed g a → Weighed g b → a ≡ b
-weights-settled one other =
+pub weights_settled : {g : Figures} {a b : Weights} → Weighed g a → Weighed g b → a ≡ b
+weights_settled one other =
     λ t. record { saved = (one.saved ∙ sym other.saved) t; early = (one.early ∙ sym other.early) t }

@@ -1,8 +1,8 @@
 // What the rules make of the costs and the finishes on the processors: best, the extremes, and the score.
 ghost use Rattle.std.specs.Prelude.{◌≡◌, ◌+◌, ◌≤◌, leb};
-ghost use Rattle.laws.specs.Bounds.{cost-most, total-most, score-most};
+ghost use Rattle.laws.specs.Bounds.{cost_most, total_most, score_most};
 ghost use Rattle.choosing.specs.Asked.{asked};
-ghost use Rattle.choosing.specs.Figured.{BestCost, Passed, FiguresOf, FiguresInRange, Weighed, may-by, score-by, standing_by};
+ghost use Rattle.choosing.specs.Figured.{BestCost, Passed, FiguresOf, FiguresInRange, Weighed, may_by, score_by, standing_by};
 
 // RB and RCB, and of the processors passed: the cost of the best, the earliest and the latest finish, the lowest and the highest cost.
 #[derive(Drop)]
@@ -71,7 +71,7 @@ pub fn figures_of(m: usize, costs: &[u64; 16], finishes: &[u64; 16], rb: u64, rc
 
 // "cost(j) <= RB - RCB", which may be below 0.
 fn affordable(g: Figures, cost: u64) -> bool
-    requires { (cost ≤ cost-most) × (g.rcb ≤ total-most) }
+    requires { (cost ≤ cost_most) × (g.rcb ≤ total_most) }
     ensures { result ≡ leb (cost + g.rcb) g.rb }
 {
     cost + g.rcb <= g.rb
@@ -79,8 +79,8 @@ fn affordable(g: Figures, cost: u64) -> bool
 
 // "j may be taken when cost(j) <= cost(best) and cost(j) <= RB - RCB."
 fn may_be_taken(g: Figures, cost: u64) -> bool
-    requires { (cost ≤ cost-most) × (g.rcb ≤ total-most) }
-    ensures { result ≡ may-by g cost }
+    requires { (cost ≤ cost_most) × (g.rcb ≤ total_most) }
+    ensures { result ≡ may_by g cost }
 {
     if g.best < cost {
         return false;
@@ -114,7 +114,7 @@ pub fn weights_of(g: Figures) -> Weights
 fn score(g: Figures, w: Weights, cost: u64, finish: u64) -> u64
     requires figures_in_range { FiguresInRange g }
     requires weighed { Weighed g w }
-    ensures { (result ≡ score-by g cost finish) × (result ≤ score-most) }
+    ensures { (result ≡ score_by g cost finish) × (result ≤ score_most) }
 {
     numbers::less(g.best, cost) * w.saved + numbers::less(g.latest, finish) * w.early
 }
@@ -123,7 +123,7 @@ fn score(g: Figures, w: Weights, cost: u64, finish: u64) -> u64
 pub fn standing(g: Figures, w: Weights, cost: u64, finish: u64) -> u64
     requires figures_in_range { FiguresInRange g }
     requires weighed { Weighed g w }
-    requires cost_le_cost_most { cost ≤ cost-most }
+    requires cost_le_cost_most { cost ≤ cost_most }
     ensures { result ≡ standing_by g cost finish }
 {
     let above = score(g, w, cost, finish) + 1;

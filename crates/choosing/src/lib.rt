@@ -3,9 +3,9 @@ ghost use Rattle.std.specs.Prelude.{◌≡◌, ◌≤◌, ◌<◌};
 ghost use Rattle.rules.specs.Orders.{lower, tie, first};
 ghost use Rattle.rules.specs.Method as rules;
 ghost use Rattle.laws.specs.Stores.{at};
-ghost use Rattle.choosing.specs.Named.{meant-method};
+ghost use Rattle.choosing.specs.Named.{meant_method};
 ghost use Rattle.choosing.specs.Asked.{asked, InRange};
-ghost use Rattle.choosing.specs.Leading.{ahead-by, led-by};
+ghost use Rattle.choosing.specs.Leading.{ahead_by, led_by};
 
 mod figures;
 
@@ -27,7 +27,7 @@ pub struct Leader {
 
 // "The highest score [..] wins; ties to earlier finish." One that may not be taken has the lowest standing.
 fn ahead(leader: Leader, standing: u64, finish: u64) -> bool
-    ensures { result ≡ ahead-by leader standing finish }
+    ensures { result ≡ ahead_by leader standing finish }
 {
     if standing == leader.standing {
         return finish < leader.finish;
@@ -37,7 +37,7 @@ fn ahead(leader: Leader, standing: u64, finish: u64) -> bool
 
 // The leader once one processor more is passed.
 fn led(leader: Leader, processor: usize, standing: u64, finish: u64) -> Leader
-    ensures { result ≡ led-by leader processor standing finish }
+    ensures { result ≡ led_by leader processor standing finish }
 {
     let t = ahead(leader, standing, finish);
     Leader {
@@ -104,7 +104,7 @@ pub fn choose(
     rcb: u64,
 ) -> usize
     requires { InRange (asked m costs.now finishes.now rb rcb) }
-    ensures { result ≡ rules.method (meant-method method) (asked m costs.now finishes.now rb rcb) }
+    ensures { result ≡ rules.method (meant_method method) (asked m costs.now finishes.now rb rcb) }
 {
     match method {
         Method::Hbcs => within_budget(m, costs, finishes, rb, rcb),

@@ -1,11 +1,11 @@
 // What a task costs on each processor, the lowest of its costs, and the cheapest total, by what the processors charge.
 ghost use Rattle.std.specs.Prelude.{◌≡◌, ◌≤◌, ◌<◌};
 ghost use Rattle.rules.specs.Folds.{lowest};
-ghost use Rattle.rules.specs.Ranks.{cost, cheapest-total};
+ghost use Rattle.rules.specs.Ranks.{cost, cheapest_total};
 ghost use Rattle.reader.specs.Meaning.{ViewOf};
-ghost use Rattle.lookup.specs.Lookup.{workflow-of};
+ghost use Rattle.lookup.specs.Lookup.{workflow_of};
 ghost use Rattle.charges.specs.Charges.{ChargesOf};
-ghost use Rattle.laws.specs.Bounds.{total-most};
+ghost use Rattle.laws.specs.Bounds.{total_most};
 ghost use Rattle.laws.specs.Stores.{at};
 ghost use Rattle.laws.specs.Filled.{Filled};
 
@@ -20,9 +20,9 @@ pub fn cost_on_all<'a>(
     task: usize,
 ) -> [u64; 16]
     requires view_of { ViewOf s.now v }
-    requires charges_of { ChargesOf (workflow-of s.now v) prices.now minimums.now }
+    requires charges_of { ChargesOf (workflow_of s.now v) prices.now minimums.now }
     requires task_lt_tasks { task < v.tasks }
-    ensures { Filled v.processors (cost (workflow-of s.now v) task) result }
+    ensures { Filled v.processors (cost (workflow_of s.now v) task) result }
 {
     let mut all = [0u64; 16];
     let mut j = 0;
@@ -50,8 +50,8 @@ pub fn lowest_of(m: usize, all: &[u64; 16]) -> u64
 // The cheapest total: the sum of all tasks' lowest costs.
 pub fn cheapest_total<'a>(s: &[u8], v: View, prices: &'a [u64; 16], minimums: &'a [u64; 16]) -> u64
     requires view_of { ViewOf s.now v }
-    requires charges_of { ChargesOf (workflow-of s.now v) prices.now minimums.now }
-    ensures { (result ≡ cheapest-total (workflow-of s.now v)) × (result ≤ total-most) }
+    requires charges_of { ChargesOf (workflow_of s.now v) prices.now minimums.now }
+    ensures { (result ≡ cheapest_total (workflow_of s.now v)) × (result ≤ total_most) }
 {
     let mut total: u64 = 0;
     let mut i = 0;

@@ -1,8 +1,8 @@
 // The lowest task with a path back to itself, where a request's edges have a cycle.
 ghost use Rattle.std.specs.Prelude.{◌≡◌, true, false, ◌||◌, ◌<◌, eqb, get_or};
-ghost use Rattle.rules.specs.Cycle.{back-to-itself, cyclic, lowest-in-cycle};
+ghost use Rattle.rules.specs.Cycle.{back_to_itself, cyclic, lowest_in_cycle};
 ghost use Rattle.reader.specs.Meaning.{ViewOf};
-ghost use Rattle.lookup.specs.Lookup.{workflow-of};
+ghost use Rattle.lookup.specs.Lookup.{workflow_of};
 ghost use Rattle.laws.specs.Turned.{Turned};
 ghost use Rattle.cycles.specs.Marked.{MarkedSoFar, Followed, AllFollowed};
 
@@ -26,8 +26,8 @@ fn mark_end(
     left: usize,
 ) -> usize
     requires view_of { ViewOf s.now v }
-    requires edge_lt_edges { (edge < v.edges) × MarkedSoFar (workflow-of s.now v) start marks.old left }
-    ensures { Turned (MarkedSoFar (workflow-of s.now v) start) (λ marks. Followed (workflow-of s.now v) start marks edge) marks.entry.now marks.exit.now left result }
+    requires edge_lt_edges { (edge < v.edges) × MarkedSoFar (workflow_of s.now v) start marks.old left }
+    ensures { Turned (MarkedSoFar (workflow_of s.now v) start) (λ marks. Followed (workflow_of s.now v) start marks edge) marks.entry.now marks.exit.now left result }
 {
     let to = lookup::to(s, v, edge);
     if marks[to] {
@@ -43,8 +43,8 @@ fn mark_end(
 // Marks along all edges. Answers how many are left.
 fn mark_pass(s: &[u8], v: View, marks: &mut [bool; 64], start: usize, left: usize) -> usize
     requires view_of { ViewOf s.now v }
-    requires marked_so_far { MarkedSoFar (workflow-of s.now v) start marks.old left }
-    ensures { Turned (MarkedSoFar (workflow-of s.now v) start) (AllFollowed (workflow-of s.now v) start v.edges) marks.old marks.new left result }
+    requires marked_so_far { MarkedSoFar (workflow_of s.now v) start marks.old left }
+    ensures { Turned (MarkedSoFar (workflow_of s.now v) start) (AllFollowed (workflow_of s.now v) start v.edges) marks.old marks.new left result }
 {
     let mut now_left = left;
     let mut e = 0;
@@ -59,7 +59,7 @@ fn mark_pass(s: &[u8], v: View, marks: &mut [bool; 64], start: usize, left: usiz
 fn leads_back(s: &[u8], v: View, start: usize) -> bool
     requires view_of { ViewOf s.now v }
     requires start_lt_tasks { start < v.tasks }
-    ensures { result ≡ back-to-itself (workflow-of s.now v) start }
+    ensures { result ≡ back_to_itself (workflow_of s.now v) start }
 {
     let mut marks = [false; 64];
     let mut left = v.tasks;
@@ -76,8 +76,8 @@ fn leads_back(s: &[u8], v: View, start: usize) -> bool
 // The lowest task with a path back to itself, where the edges have a cycle.
 pub fn lowest_in_cycle(s: &[u8], v: View) -> usize
     requires view_of { ViewOf s.now v }
-    requires v_value { cyclic (workflow-of s.now v) ≡ true }
-    ensures { result ≡ lowest-in-cycle (workflow-of s.now v) }
+    requires v_value { cyclic (workflow_of s.now v) ≡ true }
+    ensures { result ≡ lowest_in_cycle (workflow_of s.now v) }
 {
     let mut task = 0;
     while task < v.tasks {

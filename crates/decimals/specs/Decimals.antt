@@ -6,11 +6,11 @@ use borrow.Author.Tests.{lt-ltb, le-ltb, ltb-false}
 use Rattle.rules.specs.Text.{digits, decimal}
 
 -- Any count that is enough gives the same digits.
-digits-enough : (j k x : ℕ) → x < j → x < k → digits j x ≡ digits k x
+digits_enough : (j k x : ℕ) → x < j → x < k → digits j x ≡ digits k x
 unfolding digits
-digits-enough zero k x l m = absurd (omega arith)
-digits-enough (suc j) zero x l m = absurd (omega arith)
-digits-enough (suc j) (suc k) x l m = go (ltb x 10) refl (digits-enough j k (x / 10))
+digits_enough zero k x l m = absurd (omega arith)
+digits_enough (suc j) zero x l m = absurd (omega arith)
+digits_enough (suc j) (suc k) x l m = go (ltb x 10) refl (digits_enough j k (x / 10))
   where
     go :
         (t : Bool) → ltb x 10 ≡ t → (x / 10 < j → x / 10 < k → digits j (x / 10) ≡ digits k (x / 10))
@@ -25,19 +25,19 @@ module _ (x : ℕ) where
   unfolding decimal digits
   decimal_digit l = rw (add-one x, lt-ltb x 10 l)
 
-  pub decimal-longer : 10 ≤ x → decimal x ≡ decimal (x / 10) ++ ((48 + x % 10) ∷ [])
+  pub decimal_longer : 10 ≤ x → decimal x ≡ decimal (x / 10) ++ ((48 + x % 10) ∷ [])
   unfolding decimal digits
-  decimal-longer m =
+  decimal_longer m =
       rw (add-one x, le-ltb x 10 m)
-      (ap (λ front. front ++ ((48 + x % 10) ∷ [])) (digits-enough x (x / 10 + 1) (x / 10) (omega arith) (omega arith)))
+      (ap (λ front. front ++ ((48 + x % 10) ∷ [])) (digits_enough x (x / 10 + 1) (x / 10) (omega arith) (omega arith)))
 
-  pub length-longer : 10 ≤ x → length (decimal x) ≡ length (decimal (x / 10)) + 1
-  length-longer m = ap length (decimal-longer m) ∙ length-append (decimal (x / 10)) _
+  pub length_longer : 10 ≤ x → length (decimal x) ≡ length (decimal (x / 10)) + 1
+  length_longer m = ap length (decimal_longer m) ∙ length-append (decimal (x / 10)) _
 
-pub decimal-length : (k x : ℕ) → x < 10 ^ suc k → length (decimal x) ≤ suc k
-decimal-length zero x l = rw (decimal_digit x (omega arith)) (omega arith)
-decimal-length (suc k) x l = go (dec_lt x 10) (decimal-length k (x / 10))
+pub decimal_length : (k x : ℕ) → x < 10 ^ suc k → length (decimal x) ≤ suc k
+decimal_length zero x l = rw (decimal_digit x (omega arith)) (omega arith)
+decimal_length (suc k) x l = go (dec_lt x 10) (decimal_length k (x / 10))
   where
     go : Dec (x < 10) → (x / 10 < 10 ^ suc k → length (decimal (x / 10)) ≤ suc k) → length (decimal x) ≤ suc (suc k)
     go (yes few) tenth = rw (decimal_digit x few) (omega arith)
-    go (no many) tenth = omega (arith, length-longer x (omega arith), tenth (omega (arith, pow-suc 10 (suc k))))
+    go (no many) tenth = omega (arith, length_longer x (omega arith), tenth (omega (arith, pow-suc 10 (suc k))))

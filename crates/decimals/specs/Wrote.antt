@@ -18,8 +18,8 @@ module _ (out : List ℕ) (at : ℕ) where
   pub wrote_nothing : Wrote out at [] out at
   wrote_nothing = record { ends = omega arith; front = sym (append-nil (take at out)); rest = refl }
 
-  pub wrote-byte : (b : ℕ) → Room out at (b ∷ []) → Wrote out at (b ∷ []) (set out at b) (at + 1)
-  wrote-byte b room =
+  pub wrote_byte : (b : ℕ) → Room out at (b ∷ []) → Wrote out at (b ∷ []) (set out at b) (at + 1)
+  wrote_byte b room =
       record {
         ends = omega arith;
         front = rw add-one (take-suc-set out at b (omega (arith, room.fits)));
@@ -27,9 +27,9 @@ module _ (out : List ℕ) (at : ℕ) where
       }
 
   -- A byte set just before what is written.
-  pub wrote-before :
+  pub wrote_before :
       (b : ℕ) {t out' : List ℕ} {end : ℕ} → Room out at (b ∷ []) → Wrote out (at + 1) t out' end → Wrote out at (b ∷ t) (set out' at b) end
-  wrote-before b {t} {out'} {end} room w =
+  wrote_before b {t} {out'} {end} room w =
       let first = take-set-lt (at + 1) out at b (omega arith) in
       let long = length-take-le (at + 1) out room.fits in
       record {
@@ -38,7 +38,7 @@ module _ (out : List ℕ) (at : ℕ) where
             take-set-lt end out' at b (omega arith)
             ∙ ap (λ xs. set xs at b) w.front
             ∙ set-append_left (take (at + 1) out) t at b (omega arith)
-            ∙ ap (λ xs. xs ++ t) (sym first ∙ (wrote-byte b room).front)
+            ∙ ap (λ xs. xs ++ t) (sym first ∙ (wrote_byte b room).front)
             ∙ append_assoc (take at out) (b ∷ []) t;
         rest = drop-set-lt end out' at b (omega arith) ∙ w.rest;
       }
@@ -54,8 +54,8 @@ wrote_then {out} {out₁} {out₂} {t} {u} {at} {mid} {end} one next =
       rest = next.rest ∙ further;
     }
 
-pub wrote-length : {out t out' : List ℕ} {at end : ℕ} → Room out at t → Wrote out at t out' end → length out' ≡ length out
-wrote-length {out} {t} {out'} {at} {end} room w =
+pub wrote_length : {out t out' : List ℕ} {at end : ℕ} → Room out at t → Wrote out at t out' end → length out' ≡ length out
+wrote_length {out} {t} {out'} {at} {end} room w =
     omega (
       arith,
       room.fits,
@@ -69,23 +69,23 @@ wrote-length {out} {t} {out'} {at} {end} room w =
     )
 
 -- What stood before, the bytes, and what stood past them.
-wrote-all : {out t out' : List ℕ} {at end : ℕ} → Wrote out at t out' end → out' ≡ (take at out ++ t) ++ drop (at + length t) out
-wrote-all {out} {t} {out'} {at} {end} w =
+wrote_all : {out t out' : List ℕ} {at end : ℕ} → Wrote out at t out' end → out' ≡ (take at out ++ t) ++ drop (at + length t) out
+wrote_all {out} {t} {out'} {at} {end} w =
     sym (take-append-drop end out')
     ∙ ap (λ xs. xs ++ drop end out') w.front
     ∙ ap (λ xs. (take at out ++ t) ++ xs) (w.rest ∙ ap (λ n. drop n out) w.ends)
 
-pub wrote-from-start : {out t out' : List ℕ} {end : ℕ} → Wrote out 0 t out' end → out' ≡ t ++ drop (length t) out
-wrote-from-start {out} {t} w = wrote-all w ∙ ap (λ n. t ++ drop n out) (zero-add (length t))
+pub wrote_from_start : {out t out' : List ℕ} {end : ℕ} → Wrote out 0 t out' end → out' ≡ t ++ drop (length t) out
+wrote_from_start {out} {t} w = wrote_all w ∙ ap (λ n. t ++ drop n out) (zero-add (length t))
 
 -- Two exits of the buffer, and two ends, that such a contract allows are one.
-pub wrote-settled : {out t a b : List ℕ} {at e f : ℕ} → Wrote out at t a e → Wrote out at t b f → (a ≡ b) × (e ≡ f)
-wrote-settled one other = (wrote-all one ∙ sym (wrote-all other), one.ends ∙ sym other.ends)
+pub wrote_settled : {out t a b : List ℕ} {at e f : ℕ} → Wrote out at t a e → Wrote out at t b f → (a ≡ b) × (e ≡ f)
+wrote_settled one other = (wrote_all one ∙ sym (wrote_all other), one.ends ∙ sym other.ends)
 
 -- Room for two writes: for the first, and then for the second.
-pub room-first : {out t : List ℕ} {at : ℕ} (u : List ℕ) → Room out at (t ++ u) → Room out at t
-room-first {t = t} u room = record { fits = omega (arith, room.fits, length-append t u) }
+pub room_first : {out t : List ℕ} {at : ℕ} (u : List ℕ) → Room out at (t ++ u) → Room out at t
+room_first {t = t} u room = record { fits = omega (arith, room.fits, length-append t u) }
 
 pub room_next : {out t u out₁ : List ℕ} {at mid : ℕ} → Room out at (t ++ u) → Wrote out at t out₁ mid → Room out₁ mid u
 room_next {t = t} {u = u} room w =
-    record { fits = omega (arith, room.fits, w.ends, length-append t u, wrote-length (room-first u room) w) }
+    record { fits = omega (arith, room.fits, w.ends, length-append t u, wrote_length (room_first u room) w) }

@@ -2,7 +2,7 @@
 ghost use Rattle.std.specs.Prelude.{◌≡◌, [], ◌∷◌, length};
 ghost use Rattle.rules.specs.Text.{decimal};
 ghost use Rattle.decimals.specs.Wrote.{Room, Wrote};
-ghost use Rattle.decimals.specs.Fields.{field, four-numbers};
+ghost use Rattle.decimals.specs.Fields.{field, four_numbers};
 
 // Writes one byte over the buffer at `at`, and says where the next one goes.
 pub fn put_byte(out: &mut [u8], at: usize, b: u8) -> usize
@@ -69,8 +69,8 @@ pub fn put_field(out: &mut [u8], at: usize, x: u64, after: u8) -> usize
 
 // Four numbers, to the end of the line.
 pub fn put_four(out: &mut [u8], at: usize, a: u64, b: u64, c: u64, d: u64) -> usize
-    requires { Room out.old at (four-numbers a b c d) }
-    ensures { Wrote out.old at (four-numbers a b c d) out.new result }
+    requires { Room out.old at (four_numbers a b c d) }
+    ensures { Wrote out.old at (four_numbers a b c d) out.new result }
 {
     let one = put_field(out, at, a, b' ');
     let two = put_field(out, one, b, b' ');

@@ -1,9 +1,9 @@
 // What the processors of a good request are busy with at first: its windows.
 ghost use Rattle.std.specs.Prelude.{◌≡◌};
-ghost use Rattle.reader.specs.Meaning.{ViewOf, meant-view};
-ghost use Rattle.lookup.specs.Lookup.{workflow-of};
+ghost use Rattle.reader.specs.Meaning.{ViewOf, meant_view};
+ghost use Rattle.lookup.specs.Lookup.{workflow_of};
 ghost use Rattle.busy.specs.Kept.{Keeps};
-ghost use Rattle.downtime.specs.Windows.{kept-windows};
+ghost use Rattle.downtime.specs.Windows.{kept_windows};
 
 use busy::Processors;
 use reader::View;
@@ -11,7 +11,7 @@ use reader::View;
 // The windows of a good request, each among those of its processor.
 pub fn busy_at_first(s: &[u8], v: View) -> Processors
     requires { ViewOf s.now v }
-    ensures { (result ≡ kept-windows s.now (meant-view v) v.windows) × Keeps (workflow-of s.now v).busy-at-first v.windows result }
+    ensures { (result ≡ kept_windows s.now (meant_view v) v.windows) × Keeps (workflow_of s.now v).busy_at_first v.windows result }
 {
     let mut begins = [0u32; 128];
     let mut ends = [0u32; 128];

@@ -1,7 +1,7 @@
 // Reads one edge of a request.
 ghost use Rattle.std.specs.Prelude.{◌≡◌, ◌+◌, ◌*◌, ◌≤◌, length, [], ◌∷◌};
-ghost use Rattle.rules.specs.Fields.{E, E-from, E-to};
-ghost use Rattle.rules.specs.Records.{unless, first-fault, follows, above, edge-ranges, edge_at};
+ghost use Rattle.rules.specs.Fields.{E, E_from, E_to};
+ghost use Rattle.rules.specs.Records.{unless, first_fault, follows, above, edge_ranges, edge_at};
 ghost use Rattle.records.specs.Meaning.{meant};
 
 use records::{Cursor, Record, RecordAnswer};
@@ -9,7 +9,7 @@ use records::{Cursor, Record, RecordAnswer};
 // 3 where the edge at `at`, with k before it, is not above the one before it, by from first and then to; else 0. The first has none before it.
 fn order_fault(s: &[u8], at: usize, k: usize) -> u64
     requires { (at + 5 ≤ length s.now) × (k * 5 ≤ at) }
-    ensures { result ≡ first-fault (unless (follows E (above (E-from s.now) (E-to s.now)) at k) 3 ∷ []) }
+    ensures { result ≡ first_fault (unless (follows E (above (E_from s.now) (E_to s.now)) at k) 3 ∷ []) }
 {
     if k == 0 {
         return 0;
@@ -27,7 +27,7 @@ fn order_fault(s: &[u8], at: usize, k: usize) -> u64
 
 // 4 where an edge's ends are not both below n and unequal, or its transfer is not in 0..1,000; else 0.
 fn range_fault(from: usize, to: usize, transfer: u64, n: usize) -> u64
-    ensures { result ≡ first-fault (edge-ranges from to transfer n) }
+    ensures { result ≡ first_fault (edge_ranges from to transfer n) }
 {
     if n <= from {
         return 4;

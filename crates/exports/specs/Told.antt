@@ -4,10 +4,10 @@ use Rattle.rules.specs.Records.{Read, read, stopped}
 use Rattle.rules.specs.Reading.{Request}
 use Rattle.rules.specs.Labels as rules
 use Rattle.rules.specs.Method.{Name}
-use Rattle.rules.specs.Answer.{answer-asked}
-use Rattle.rules.specs.Buffers.{Buffers, rows-lent, buffers-asked}
+use Rattle.rules.specs.Answer.{answer_asked}
+use Rattle.rules.specs.Buffers.{Buffers, rows_lent, buffers_asked}
 use Rattle.text.specs.Printed.{after}
-use Rattle.told.specs.Told.{told-deadline, told-given, told-share, told-answer}
+use Rattle.told.specs.Told.{told_deadline, told_given, told_share, told_answer}
 use Rattle.told.specs.declared.ZabgurinAnswer.{ZabgurinAnswer}
 use Rattle.exports.specs.declared.ZabgurinReading.{ZabgurinReading}
 use Rattle.exports.specs.declared.ZabgurinPart.{ZabgurinPart}
@@ -21,13 +21,13 @@ told (read end r) =
       tasks = r.tasks;
       processors = r.processors;
       budget = r.budget;
-      deadline = told-deadline r.deadline;
-      share_given = told-given r.share;
-      share = told-share r.share;
-      prices_at = r.prices-at;
-      windows_at = r.windows-at;
+      deadline = told_deadline r.deadline;
+      share_given = told_given r.share;
+      share = told_share r.share;
+      prices_at = r.prices_at;
+      windows_at = r.windows_at;
       windows = r.windows;
-      tasks_at = r.tasks-at;
+      tasks_at = r.tasks_at;
       edges_at = r.edges-at;
       edges = r.edges;
     }
@@ -54,10 +54,10 @@ told_part p = record { begin = p.begin; length = p.length }
 
 -- The answer and the four buffers after the call are the rules', by the method that is asked for.
 pub record PlanTold (M : Name) (s : List ℕ) (lent after : Buffers) (r : ZabgurinAnswer) : Type 0 where
-  pub answer-is : r ≡ told-answer (answer-asked M s (rows-lent lent))
-  pub after_is : after ≡ buffers-asked M s lent
+  pub answer_is : r ≡ told_answer (answer_asked M s (rows_lent lent))
+  pub after_is : after ≡ buffers_asked M s lent
 
 -- The length of a text is told, and the buffer after the call has it where there is room.
 pub record TextTold (t out out' : List ℕ) (r : ℕ) : Type 0 where
-  pub length-is : r ≡ length t
+  pub length_is : r ≡ length t
   pub after_is : out' ≡ after t out

@@ -1,15 +1,15 @@
 // What a program in C or Rust links: numbers, structs of numbers and slices. A slice is passed as its pointer and its length.
 ghost use Rattle.std.specs.Prelude.{◌≡◌};
 ghost use Rattle.label.specs.Label.{ListedTold, LabelLength};
-ghost use Rattle.rules.specs.Reading.{read-request};
-ghost use Rattle.rules.specs.Labels.{label-lookup};
-ghost use Rattle.rules.specs.Method.{by-HBCS, by-cheapest, by-HEFT};
-ghost use Rattle.rules.specs.Text.{text-asked};
+ghost use Rattle.rules.specs.Reading.{read_request};
+ghost use Rattle.rules.specs.Labels.{label_lookup};
+ghost use Rattle.rules.specs.Method.{by_HBCS, by_cheapest, by_HEFT};
+ghost use Rattle.rules.specs.Text.{text_asked};
 ghost use Rattle.rules.specs.Range.{range};
-ghost use Rattle.rules.specs.Why.{why-not};
-ghost use Rattle.choosing.specs.Named.{meant-method};
+ghost use Rattle.rules.specs.Why.{why_not};
+ghost use Rattle.choosing.specs.Named.{meant_method};
 ghost use Rattle.buffers.specs.Into.{four};
-ghost use Rattle.told.specs.Told.{told-costs, told-why};
+ghost use Rattle.told.specs.Told.{told_costs, told_why};
 ghost use Rattle.exports.specs.Told.{told, told_part, PlanTold, TextTold};
 
 use choosing::Method;
@@ -57,7 +57,7 @@ pub struct ZabgurinReading {
 // Reads a request.
 #[unsafe(no_mangle)]
 pub extern "C" fn zabgurin_read(request: &[u8]) -> ZabgurinReading
-    ensures { result ≡ told (read-request request.now) }
+    ensures { result ≡ told (read_request request.now) }
 {
     let answer = reader::read_request(request);
     match answer {
@@ -112,7 +112,7 @@ pub struct ZabgurinPart {
 // that it does not have.
 #[unsafe(no_mangle)]
 pub extern "C" fn zabgurin_label(request: &[u8], task: usize) -> ZabgurinPart
-    ensures { result ≡ told_part (label-lookup request.now task) }
+    ensures { result ≡ told_part (label_lookup request.now task) }
 {
     let part = lookup::label_part(request, task);
     ZabgurinPart {
@@ -131,7 +131,7 @@ fn plan_by(
     finishes: &mut [u64],
     costs: &mut [u64],
 ) -> ZabgurinAnswer
-    ensures { PlanTold (meant-method method) request.now (four processors.old starts.old finishes.old costs.old) (four processors.new starts.new finishes.new costs.new) result }
+    ensures { PlanTold (meant_method method) request.now (four processors.old starts.old finishes.old costs.old) (four processors.new starts.new finishes.new costs.new) result }
 {
     let answer = buffers::plan_into(request, method, processors, starts, finishes, costs);
     told::answer_told(answer)
@@ -146,7 +146,7 @@ pub extern "C" fn zabgurin_plan(
     finishes: &mut [u64],
     costs: &mut [u64],
 ) -> ZabgurinAnswer
-    ensures { PlanTold by-HBCS request.now (four processors.old starts.old finishes.old costs.old) (four processors.new starts.new finishes.new costs.new) result }
+    ensures { PlanTold by_HBCS request.now (four processors.old starts.old finishes.old costs.old) (four processors.new starts.new finishes.new costs.new) result }
 {
     plan_by(request, Method::Hbcs, processors, starts, finishes, costs)
 }
@@ -160,7 +160,7 @@ pub extern "C" fn zabgurin_cheapest(
     finishes: &mut [u64],
     costs: &mut [u64],
 ) -> ZabgurinAnswer
-    ensures { PlanTold by-cheapest request.now (four processors.old starts.old finishes.old costs.old) (four processors.new starts.new finishes.new costs.new) result }
+    ensures { PlanTold by_cheapest request.now (four processors.old starts.old finishes.old costs.old) (four processors.new starts.new finishes.new costs.new) result }
 {
     plan_by(
         request,
@@ -181,7 +181,7 @@ pub extern "C" fn zabgurin_heft(
     finishes: &mut [u64],
     costs: &mut [u64],
 ) -> ZabgurinAnswer
-    ensures { PlanTold by-HEFT request.now (four processors.old starts.old finishes.old costs.old) (four processors.new starts.new finishes.new costs.new) result }
+    ensures { PlanTold by_HEFT request.now (four processors.old starts.old finishes.old costs.old) (four processors.new starts.new finishes.new costs.new) result }
 {
     plan_by(request, Method::Heft, processors, starts, finishes, costs)
 }
@@ -189,7 +189,7 @@ pub extern "C" fn zabgurin_heft(
 // The range that a budget is set in, with 64 rows lent.
 #[unsafe(no_mangle)]
 pub extern "C" fn zabgurin_range(request: &[u8]) -> ZabgurinCosts
-    ensures { result ≡ told-costs (range request.now) }
+    ensures { result ≡ told_costs (range request.now) }
 {
     let costs = asked::range(request);
     told::costs_told(costs)
@@ -198,7 +198,7 @@ pub extern "C" fn zabgurin_range(request: &[u8]) -> ZabgurinCosts
 // Why a task does not start at `start`, in the plan within its budget, with 64 rows lent.
 #[unsafe(no_mangle)]
 pub extern "C" fn zabgurin_why(request: &[u8], task: usize, start: u64) -> ZabgurinWhy
-    ensures { result ≡ told-why (why-not request.now task start) }
+    ensures { result ≡ told_why (why_not request.now task start) }
 {
     let why = sooner::why_not(request, task, start);
     told::why_told(why)
@@ -207,7 +207,7 @@ pub extern "C" fn zabgurin_why(request: &[u8], task: usize, start: u64) -> Zabgu
 // Prints the plan of a request by a method, with 64 rows lent, or the refusal. Answers how many bytes the text has. Where the buffer has room for them they stand at its
 // front, and what is after them stays; where it has not, nothing is written.
 fn print_by(request: &[u8], method: Method, out: &mut [u8]) -> usize
-    ensures { TextTold (text-asked (meant-method method) request.now) out.old out.new result }
+    ensures { TextTold (text_asked (meant_method method) request.now) out.old out.new result }
 {
     let printed = text::print(request, method, out);
     match printed {
@@ -219,7 +219,7 @@ fn print_by(request: &[u8], method: Method, out: &mut [u8]) -> usize
 // Prints the plan within its budget.
 #[unsafe(no_mangle)]
 pub extern "C" fn zabgurin_print(request: &[u8], out: &mut [u8]) -> usize
-    ensures { TextTold (text-asked by-HBCS request.now) out.old out.new result }
+    ensures { TextTold (text_asked by_HBCS request.now) out.old out.new result }
 {
     print_by(request, Method::Hbcs, out)
 }
@@ -227,7 +227,7 @@ pub extern "C" fn zabgurin_print(request: &[u8], out: &mut [u8]) -> usize
 // Prints the cheapest plan.
 #[unsafe(no_mangle)]
 pub extern "C" fn zabgurin_print_cheapest(request: &[u8], out: &mut [u8]) -> usize
-    ensures { TextTold (text-asked by-cheapest request.now) out.old out.new result }
+    ensures { TextTold (text_asked by_cheapest request.now) out.old out.new result }
 {
     print_by(request, Method::Cheapest, out)
 }
@@ -235,7 +235,7 @@ pub extern "C" fn zabgurin_print_cheapest(request: &[u8], out: &mut [u8]) -> usi
 // Prints the HEFT plan.
 #[unsafe(no_mangle)]
 pub extern "C" fn zabgurin_print_heft(request: &[u8], out: &mut [u8]) -> usize
-    ensures { TextTold (text-asked by-HEFT request.now) out.old out.new result }
+    ensures { TextTold (text_asked by_HEFT request.now) out.old out.new result }
 {
     print_by(request, Method::Heft, out)
 }

@@ -1,7 +1,7 @@
 // What a record is read by: its opening, the numbers in its bytes, and whether they are in range.
 ghost use Rattle.std.specs.Prelude.{◌≡◌, not, ◌&&◌, ◌||◌, ◌+◌, ◌≤◌, ◌<◌, length, ltb, eqb};
 ghost use Rattle.rules.specs.Fields.{byte, two_bytes, four_bytes};
-ghost use Rattle.rules.specs.Records.{first-fault, opening-by, within};
+ghost use Rattle.rules.specs.Records.{first_fault, opening_by, within};
 
 fn number(x: u8) -> usize
     ensures { (result ≡ x) × (result < 256) }
@@ -37,7 +37,7 @@ pub fn four_bytes(s: &[u8], at: usize, k: usize) -> u64
 
 // What is wrong with the record at `at` before its fields are looked at: 1 or 2; 0 where it is whole and of this kind.
 pub fn opening_fault(s: &[u8], at: usize, kind: u8, size: usize) -> u64
-    ensures { (result ≡ first-fault (opening-by s.now at kind size)) × (result ≡ 0 → at + size ≤ length s.now) }
+    ensures { (result ≡ first_fault (opening_by s.now at kind size)) × (result ≡ 0 → at + size ≤ length s.now) }
 {
     if s.len() <= at {
         return 1;

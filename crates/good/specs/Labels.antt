@@ -3,50 +3,50 @@ use Rattle.std.specs.Prelude.{◌≡◌, refl, ℕ, ◌+◌, ◌<◌, ◌≤◌,
 use Rattle.std.proofs.Common.{arith, lt-ltb, le-ltb, ltb-true, ltb-false}
 use Rattle.label.specs.Label.{Label}
 use Rattle.rules.specs.Records.{Read, read, stopped}
-use Rattle.rules.specs.Reading.{Request, read-request}
-use Rattle.rules.specs.Labels.{empty-start, label-place, label-part, label-in, label-lookup}
-use Rattle.good.specs.ReadIsGood.{read-is-good}
+use Rattle.rules.specs.Reading.{Request, read_request}
+use Rattle.rules.specs.Labels.{empty_start, label_place, label_part, label_in, label_lookup}
+use Rattle.good.specs.ReadIsGood.{read_is_good}
 
 -- What the lookup gives for a task of a good request.
-pub lookup-is-part : (s : List ℕ) (i : ℕ) {end : ℕ} {r : Request} →
-    read-request s ≡ read end r → i < r.tasks → label-lookup s i ≡ label-part s r i
-unfolding label-lookup label-in
-lookup-is-part s i e h = rw (e, lt-ltb i _ h)
+pub lookup_is_part : (s : List ℕ) (i : ℕ) {end : ℕ} {r : Request} →
+    read_request s ≡ read end r → i < r.tasks → label_lookup s i ≡ label_part s r i
+unfolding label_lookup label_in
+lookup_is_part s i e h = rw (e, lt-ltb i _ h)
 
 -- "It returns the label, without its spaces".
-pub good-label : (s : List ℕ) (i : ℕ) {end : ℕ} {r : Request} →
-    read-request s ≡ read end r → i < r.tasks → Label s (label-place r i) (label-lookup s i).length
-unfolding label-part
-good-label s i e h = rw (lookup-is-part s i e h) ((read-is-good s e).labelled i h)
+pub good_label : (s : List ℕ) (i : ℕ) {end : ℕ} {r : Request} →
+    read_request s ≡ read end r → i < r.tasks → Label s (label_place r i) (label_lookup s i).length
+unfolding label_part
+good_label s i e h = rw (lookup_is_part s i e h) ((read_is_good s e).labelled i h)
 
 -- "as a part of the caller's own bytes": where that label stands.
-pub label-begins : (s : List ℕ) (i : ℕ) {end : ℕ} {r : Request} →
-    read-request s ≡ read end r → i < r.tasks → (label-lookup s i).begin ≡ label-place r i
-unfolding label-part
-label-begins s i e h = rw (lookup-is-part s i e h)
+pub label_begins : (s : List ℕ) (i : ℕ) {end : ℕ} {r : Request} →
+    read_request s ≡ read end r → i < r.tasks → (label_lookup s i).begin ≡ label_place r i
+unfolding label_part
+label_begins s i e h = rw (lookup_is_part s i e h)
 
 -- "for a request refused in reading (1 to 6), [..] the empty part at the start"
-pub no-label-refused : (s : List ℕ) (i : ℕ) {number place : ℕ} → read-request s ≡ stopped number place → label-lookup s i ≡ empty-start
-unfolding label-lookup label-in
-no-label-refused s i e = rw e
+pub no_label_refused : (s : List ℕ) (i : ℕ) {number place : ℕ} → read_request s ≡ stopped number place → label_lookup s i ≡ empty_start
+unfolding label_lookup label_in
+no_label_refused s i e = rw e
 
 -- "or a task not below n"
-pub no-label-beyond : (s : List ℕ) (i : ℕ) {end : ℕ} {r : Request} →
-    read-request s ≡ read end r → r.tasks ≤ i → label-lookup s i ≡ empty-start
-unfolding label-lookup label-in
-no-label-beyond s i e h = rw (e, le-ltb i _ h)
+pub no_label_beyond : (s : List ℕ) (i : ℕ) {end : ℕ} {r : Request} →
+    read_request s ≡ read end r → r.tasks ≤ i → label_lookup s i ≡ empty_start
+unfolding label_lookup label_in
+no_label_beyond s i e h = rw (e, le-ltb i _ h)
 
 -- "a part of the caller's own bytes": it lies inside them, whatever they are.
-pub label_inside : (s : List ℕ) (i : ℕ) → (label-lookup s i).begin + (label-lookup s i).length ≤ length s
-label_inside s i = go (read-request s) refl
+pub label_inside : (s : List ℕ) (i : ℕ) → (label_lookup s i).begin + (label_lookup s i).length ≤ length s
+label_inside s i = go (read_request s) refl
   where
-    go : (x : Read Request) → read-request s ≡ x → (label-lookup s i).begin + (label-lookup s i).length ≤ length s
-    go (stopped number place) e = rw (no-label-refused s i e) (omega arith)
+    go : (x : Read Request) → read_request s ≡ x → (label_lookup s i).begin + (label_lookup s i).length ≤ length s
+    go (stopped number place) e = rw (no_label_refused s i e) (omega arith)
     go (read end r) e = below (ltb i r.tasks) refl
       where
-        below : (t : Bool) → ltb i r.tasks ≡ t → (label-lookup s i).begin + (label-lookup s i).length ≤ length s
+        below : (t : Bool) → ltb i r.tasks ≡ t → (label_lookup s i).begin + (label_lookup s i).length ≤ length s
         below true h =
             let here = ltb-true _ _ h in
-            let l = good-label s i e here in
-            omega (arith, l.whole, l.eight-or-fewer, label-begins s i e here)
-        below false h = rw (no-label-beyond s i e (ltb-false _ _ h)) (omega arith)
+            let l = good_label s i e here in
+            omega (arith, l.whole, l.eight_or_fewer, label_begins s i e here)
+        below false h = rw (no_label_beyond s i e (ltb-false _ _ h)) (omega arith)

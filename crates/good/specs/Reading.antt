@@ -5,14 +5,14 @@ use Rattle.std.proofs.Common.{eq-or-lt_of_le, le_of_suc-le-suc, zero-mul, suc-mu
 use Rattle.std.proofs.Math.Logic.{⊎_elim}
 use Rattle.rules.specs.Records.{Read, read, stopped}
 use Rattle.rules.specs.Reading.{then, each}
-use Rattle.good.specs.Records.{stopped-not-read}
+use Rattle.good.specs.Records.{stopped_not_read}
 
 -- A step and what comes after it were read: each of the two was.
-pub then-read : {A B : Type 0} (x : Read A) (step : ℕ → A → Read B) {next : ℕ} {b : B} →
+pub then_read : {A B : Type 0} (x : Read A) (step : ℕ → A → Read B) {next : ℕ} {b : B} →
     then x step ≡ read next b → (place : ℕ) × (a : A) × (x ≡ read place a) × (step place a ≡ read next b)
 unfolding then
-then-read (read place a) step e = (place, a, refl, e)
-then-read (stopped number place) step e = absurd (stopped-not-read e)
+then_read (read place a) step e = (place, a, refl, e)
+then_read (stopped number place) step e = absurd (stopped_not_read e)
 
 module _ {A : Type 0} (part : ℕ → ℕ → Read A) where
   -- One part more.
@@ -22,12 +22,12 @@ module _ {A : Type 0} (part : ℕ → ℕ → Read A) where
   each_more at k before here = rw (before, here)
 
   -- A refusal ends all.
-  pub each-stopped : (at k m : ℕ) {next number place : ℕ} →
+  pub each_stopped : (at k m : ℕ) {next number place : ℕ} →
       each part at k ≡ read next tt → part next k ≡ stopped number place → k < m → each part at m ≡ stopped number place
   unfolding each then
-  each-stopped at k zero before here h = absurd (omega arith)
-  each-stopped at k (suc m) before here h =
-      ⊎_elim (λ same. rw (← same, before, here)) (λ less. rw (each-stopped at k m before here less)) (eq-or-lt_of_le (le_of_suc-le-suc h))
+  each_stopped at k zero before here h = absurd (omega arith)
+  each_stopped at k (suc m) before here h =
+      ⊎_elim (λ same. rw (← same, before, here)) (λ less. rw (each_stopped at k m before here less)) (eq-or-lt_of_le (le_of_suc-le-suc h))
 
 -- Each part that is read takes d bytes.
 abbrev pub Steps : {A : Type 0} → (ℕ → ℕ → Read A) → ℕ → Type 0
@@ -38,8 +38,8 @@ pub record Walks {A : Type 0} (part : ℕ → ℕ → Read A) (at : ℕ) (place 
   pub begins : place 0 ≡ at
   pub goes_on : (j next : ℕ) (a : A) → part (place j) j ≡ read next a → next ≡ place (suc j)
 
-pub by-stride : {A : Type 0} {part : ℕ → ℕ → Read A} (d : ℕ) → Steps part d → (at : ℕ) → Walks part at (λ j. at + j * d)
-by-stride d step at =
+pub by_stride : {A : Type 0} {part : ℕ → ℕ → Read A} (d : ℕ) → Steps part d → (at : ℕ) → Walks part at (λ j. at + j * d)
+by_stride d step at =
     record {
       begins = omega (arith, zero-mul d);
       goes_on = λ j next a e. omega (arith, suc-mul j d, step (at + j * d) j next a e);
@@ -51,20 +51,20 @@ module _ {A : Type 0} {part : ℕ → ℕ → Read A} {at : ℕ} {place : ℕ �
       (begin : ℕ) × (a : A) × (each part at k ≡ read begin tt) × (part begin k ≡ read next a)
   unfolding each
   last k {next} e =
-      let (begin, u, before, rest) = then-read (each part at k) (λ begin _. then (part begin k) (λ after _. read after tt)) e in
-      let (after, a, here, done) = then-read (part begin k) (λ after _. read after tt) rest in
+      let (begin, u, before, rest) = then_read (each part at k) (λ begin _. then (part begin k) (λ after _. read after tt)) e in
+      let (after, a, here, done) = then_read (part begin k) (λ after _. read after tt) rest in
       let same : after ≡ next = cc in
       (begin, a, before, rw same at here)
 
   -- k parts that were read end where one more would begin.
-  pub each-ends : (k : ℕ) {next : ℕ} → each part at k ≡ read next tt → next ≡ place k
+  pub each_ends : (k : ℕ) {next : ℕ} → each part at k ≡ read next tt → next ≡ place k
   unfolding each
-  each-ends zero {next} e =
+  each_ends zero {next} e =
       let same : at ≡ next = cc in
       omega (arith, walk.begins)
-  each-ends (suc k) {next} e =
+  each_ends (suc k) {next} e =
       let (begin, a, before, here) = last k e in
-      walk.goes_on k next a (rw (each-ends k before) at here)
+      walk.goes_on k next a (rw (each_ends k before) at here)
 
   -- Each of the parts that were read was read at its place.
   pub each_part : (k : ℕ) {next : ℕ} → each part at k ≡ read next tt →
@@ -73,6 +73,6 @@ module _ {A : Type 0} {part : ℕ → ℕ → Read A} {at : ℕ} {place : ℕ �
   each_part (suc k) {next} e j h =
       let (begin, a, before, here) = last k e in
       ⊎_elim
-      (λ same. (next, a, rw same (rw (each-ends k before) at here)))
+      (λ same. (next, a, rw same (rw (each_ends k before) at here)))
       (λ less. each_part k before j less)
       (eq-or-lt_of_le (le_of_suc-le-suc h))

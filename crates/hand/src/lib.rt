@@ -3,13 +3,13 @@ ghost use Rattle.std.specs.Prelude.{◌≡◌, ◌≤◌, ◌<◌};
 ghost use Rattle.rules.specs.Ranks.{cost};
 ghost use Rattle.rules.specs.Method as rules;
 ghost use Rattle.reader.specs.Meaning.{ViewOf};
-ghost use Rattle.lookup.specs.Lookup.{workflow-of};
-ghost use Rattle.laws.specs.Bounds.{ready-most, total-most, budget-most};
+ghost use Rattle.lookup.specs.Lookup.{workflow_of};
+ghost use Rattle.laws.specs.Bounds.{ready_most, total_most, budget_most};
 ghost use Rattle.laws.specs.Stores.{at};
 ghost use Rattle.laws.specs.Filled.{AtMost, Filled};
-ghost use Rattle.busy.specs.Kept.{kept-busy, InOrder, EndBy};
-ghost use Rattle.choosing.specs.Named.{meant-method};
-ghost use Rattle.hand.specs.Hand.{finish-by, row_by};
+ghost use Rattle.busy.specs.Kept.{kept_busy, InOrder, EndBy};
+ghost use Rattle.choosing.specs.Named.{meant_method};
+ghost use Rattle.hand.specs.Hand.{finish_by, row_by};
 
 use choosing::Method;
 use reader::View;
@@ -34,9 +34,9 @@ fn finish_on_all<'a>(
     task: usize,
 ) -> [u64; 16]
     requires view_of { ViewOf s.now v }
-    requires task_lt_tasks { (task < v.tasks) × AtMost ready-most ready.now }
-    requires in_order { InOrder begins.now ends.now first.now × EndBy ready-most begins.now ends.now first.now }
-    ensures { Filled v.processors (finish-by (workflow-of s.now v) (at ready.now) (kept-busy begins.now ends.now first.now) task) result }
+    requires task_lt_tasks { (task < v.tasks) × AtMost ready_most ready.now }
+    requires in_order { InOrder begins.now ends.now first.now × EndBy ready_most begins.now ends.now first.now }
+    ensures { Filled v.processors (finish_by (workflow_of s.now v) (at ready.now) (kept_busy begins.now ends.now first.now) task) result }
 {
     let mut all = [0u64; 16];
     let mut j = 0;
@@ -63,10 +63,10 @@ pub fn row_for<'a>(
     rcb: u64,
 ) -> Row
     requires view_of { ViewOf s.now v }
-    requires task_lt_tasks { (task < v.tasks) × AtMost ready-most ready.now }
-    requires in_order { InOrder begins.now ends.now first.now × EndBy ready-most begins.now ends.now first.now }
-    requires filled { Filled v.processors (cost (workflow-of s.now v) task) costs.now × (rb ≤ budget-most) × (rcb ≤ total-most) }
-    ensures { result ≡ row_by (workflow-of s.now v) (at ready.now) (kept-busy begins.now ends.now first.now) task (rules.method (meant-method method)) rb rcb }
+    requires task_lt_tasks { (task < v.tasks) × AtMost ready_most ready.now }
+    requires in_order { InOrder begins.now ends.now first.now × EndBy ready_most begins.now ends.now first.now }
+    requires filled { Filled v.processors (cost (workflow_of s.now v) task) costs.now × (rb ≤ budget_most) × (rcb ≤ total_most) }
+    ensures { result ≡ row_by (workflow_of s.now v) (at ready.now) (kept_busy begins.now ends.now first.now) task (rules.method (meant_method method)) rb rcb }
 {
     let finishes = finish_on_all(s, v, ready, begins, ends, first, task);
     let j = choosing::choose(method, v.processors, costs, &finishes, rb, rcb);

@@ -2,7 +2,7 @@
 use Rattle.std.specs.Prelude.{ℕ, ◌+◌, ◌≤◌, ◌<◌, ◌≡◌, refl, List, set, replicate}
 use Rattle.std.proofs.Common.{sym, ◌∙◌, arith, length-set, get_or-set_other, ext_get_or}
 use Rattle.std.proofs.Math.Decide.{dec_le}
-use Rattle.laws.specs.Stores.{stored-below, repeated, at}
+use Rattle.laws.specs.Stores.{stored_below, repeated, at}
 use Rattle.laws.specs.Filled.{AtMost, Filled}
 
 -- A store leaves what is past it.
@@ -16,21 +16,21 @@ pub filled_more : {m x : ℕ} {f : ℕ → ℕ} {xs : List ℕ} → Filled m f x
 filled_more {m} {x} {f} {xs} so_far l e =
     record {
       size = length-set xs m x ∙ so_far.size;
-      below = stored-below (λ j y. y ≡ f j) xs m x 0 (omega (arith, so_far.size)) so_far.below e;
+      below = stored_below (λ j y. y ≡ f j) xs m x 0 (omega (arith, so_far.size)) so_far.below e;
       past = λ j b. stored_past xs m x j b ∙ so_far.past j (omega arith);
     }
 
 -- A bound of the function is one of the array.
-pub filled-at-most : {m : ℕ} {f : ℕ → ℕ} {xs : List ℕ} → Filled m f xs → (b : ℕ) → ((j : ℕ) → f j ≤ b) → AtMost b xs
-filled-at-most {m} {f} {xs} all b most j = go (dec_le m j)
+pub filled_at_most : {m : ℕ} {f : ℕ → ℕ} {xs : List ℕ} → Filled m f xs → (b : ℕ) → ((j : ℕ) → f j ≤ b) → AtMost b xs
+filled_at_most {m} {f} {xs} all b most j = go (dec_le m j)
   where
     go : Dec (m ≤ j) → at xs j ≤ b
     go (yes l) = omega (arith, all.past j l)
     go (no n) = omega (arith, all.below j (omega arith), most j)
 
 -- Two arrays that hold the first m values of one function are one array.
-pub filled-settled : {m : ℕ} {f : ℕ → ℕ} (xs ys : List ℕ) → Filled m f xs → Filled m f ys → xs ≡ ys
-filled-settled {m} {f} xs ys one other = ext_get_or 0 xs ys (one.size ∙ sym other.size) (λ j l. same j (dec_le m j))
+pub filled_settled : {m : ℕ} {f : ℕ → ℕ} (xs ys : List ℕ) → Filled m f xs → Filled m f ys → xs ≡ ys
+filled_settled {m} {f} xs ys one other = ext_get_or 0 xs ys (one.size ∙ sym other.size) (λ j l. same j (dec_le m j))
   where
     same : (j : ℕ) → Dec (m ≤ j) → at xs j ≡ at ys j
     same j (yes l) = one.past j l ∙ sym (other.past j l)

@@ -5,18 +5,18 @@ use Rattle.rules.specs.Orders.{Order, among, first}
 use Rattle.laws.specs.Tests.{cond_either}
 use Rattle.laws.specs.Numbers.{below_next}
 
-pub first-at-most : (k : ℕ) (beats : Order) → first k beats ≤ k
+pub first_at_most : (k : ℕ) (beats : Order) → first k beats ≤ k
 unfolding first
-first-at-most zero beats = omega arith
-first-at-most (suc k) beats =
-    let h : first k beats ≤ k = first-at-most k beats in
+first_at_most zero beats = omega arith
+first_at_most (suc k) beats =
+    let h : first k beats ≤ k = first_at_most k beats in
     cond_either (λ z. z ≤ suc k) (beats k (first k beats)) k (first k beats) (λ e. omega arith) (λ e. omega arith)
 
 pub first_below : (k : ℕ) (beats : Order) → 1 ≤ k → first k beats < k
 unfolding first
 first_below zero beats pos = absurd (omega arith)
 first_below (suc k) beats pos =
-    let h : first k beats ≤ k = first-at-most k beats in
+    let h : first k beats ≤ k = first_at_most k beats in
     cond_either (λ z. z < suc k) (beats k (first k beats)) k (first k beats) (λ e. omega arith) (λ e. omega arith)
 
 -- One turn of a loop.
@@ -25,12 +25,12 @@ unfolding first
 first_next k beats e h = h ∙ ap (λ y. cond (beats k y) k y) e ∙ ap (λ n. first n beats) (sym (add-one k))
 
 -- Orders that are the same below the count.
-pub first-same : (k : ℕ) (f g : Order) → ((i j : ℕ) → i < k → j < k → f i j ≡ g i j) → first k f ≡ first k g
+pub first_same : (k : ℕ) (f g : Order) → ((i j : ℕ) → i < k → j < k → f i j ≡ g i j) → first k f ≡ first k g
 unfolding first
-first-same zero f g same = refl
-first-same (suc k) f g same =
-    let before : first k f ≡ first k g = first-same k f g (λ i j l m. same i j (omega arith) (omega arith)) in
-    ap₂ (λ t z. cond t k z) (same k (first k f) (omega arith) (omega (arith, first-at-most k f)) ∙ ap (g k) before) before
+first_same zero f g same = refl
+first_same (suc k) f g same =
+    let before : first k f ≡ first k g = first_same k f g (λ i j l m. same i j (omega arith) (omega arith)) in
+    ap₂ (λ t z. cond t k z) (same k (first k f) (omega arith) (omega (arith, first_at_most k f)) ∙ ap (g k) before) before
 
 -- Where one below k passes the test, the first among those that pass does.
 pub first_passes : (test : ℕ → Bool) (next : Order) (k i : ℕ) → i < k → test i ≡ true → test (first k (among test next)) ≡ true
@@ -44,8 +44,8 @@ first_passes test next (suc k) i l h =
     go :
         (b : ℕ) (s t : Bool) → test k ≡ s → test b ≡ t → (test k ≡ true) ⊎ (test b ≡ true)
         → test (cond (test k && (not (test b) || next k b)) k b) ≡ true
-    go b true true at-k at_b some =
-        cond_either (λ z. test z ≡ true) (test k && (not (test b) || next k b)) k b (λ e. at-k) (λ e. at_b)
-    go b true false at-k at_b some = rw (at-k, at_b) at-k
-    go b false true at-k at_b some = rw at-k at_b
-    go b false false at-k at_b some = absurd (⊎_elim (λ e. true≢false (sym e ∙ at-k)) (λ e. true≢false (sym e ∙ at_b)) some)
+    go b true true at_k at_b some =
+        cond_either (λ z. test z ≡ true) (test k && (not (test b) || next k b)) k b (λ e. at_k) (λ e. at_b)
+    go b true false at_k at_b some = rw (at_k, at_b) at_k
+    go b false true at_k at_b some = rw at_k at_b
+    go b false false at_k at_b some = absurd (⊎_elim (λ e. true≢false (sym e ∙ at_k)) (λ e. true≢false (sym e ∙ at_b)) some)

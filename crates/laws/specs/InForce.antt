@@ -3,26 +3,26 @@ use Rattle.std.specs.Prelude.{◌≡◌}
 use Rattle.std.proofs.Math.Path.{refl}
 use Rattle.rules.specs.Reading.{Share}
 use Rattle.rules.specs.Workflow.{Workflow}
-use Rattle.rules.specs.Cycle.{cyclic, lowest-in-cycle}
-use Rattle.rules.specs.Method.{Name, by-HBCS, by-cheapest, by-HEFT}
-use Rattle.rules.specs.Budget.{in-force, unbound, held_to}
-use Rattle.laws.specs.Begun.{begun, cyclic-begun, lowest-in-cycle-begun}
+use Rattle.rules.specs.Cycle.{cyclic, lowest_in_cycle}
+use Rattle.rules.specs.Method.{Name, by_HBCS, by_cheapest, by_HEFT}
+use Rattle.rules.specs.Budget.{in_force, unbound, held_to}
+use Rattle.laws.specs.Begun.{begun, cyclic_begun, lowest_in_cycle_begun}
 
 module _ (share : Share) (W : Workflow) where
-  pub tasks-held : (M : Name) → (held_to M share W).tasks ≡ W.tasks
-  unfolding held_to unbound in-force
-  tasks-held by-HBCS = refl
-  tasks-held by-cheapest = refl
-  tasks-held by-HEFT = refl
+  pub tasks_held : (M : Name) → (held_to M share W).tasks ≡ W.tasks
+  unfolding held_to unbound in_force
+  tasks_held by_HBCS = refl
+  tasks_held by_cheapest = refl
+  tasks_held by_HEFT = refl
 
-  pub cyclic-held : (M : Name) → cyclic (held_to M share W) ≡ cyclic W
-  unfolding held_to unbound in-force begun
-  cyclic-held by-HBCS = cyclic-begun _ _ _ _ W
-  cyclic-held by-cheapest = cyclic-begun _ _ _ _ W
-  cyclic-held by-HEFT = cyclic-begun _ _ _ _ W
+  pub cyclic_held : (M : Name) → cyclic (held_to M share W) ≡ cyclic W
+  unfolding held_to unbound in_force begun
+  cyclic_held by_HBCS = cyclic_begun _ _ _ _ W
+  cyclic_held by_cheapest = cyclic_begun _ _ _ _ W
+  cyclic_held by_HEFT = cyclic_begun _ _ _ _ W
 
-  pub lowest-in-cycle-held : (M : Name) → lowest-in-cycle (held_to M share W) ≡ lowest-in-cycle W
-  unfolding held_to unbound in-force begun
-  lowest-in-cycle-held by-HBCS = lowest-in-cycle-begun _ _ _ _ W
-  lowest-in-cycle-held by-cheapest = lowest-in-cycle-begun _ _ _ _ W
-  lowest-in-cycle-held by-HEFT = lowest-in-cycle-begun _ _ _ _ W
+  pub lowest_in_cycle_held : (M : Name) → lowest_in_cycle (held_to M share W) ≡ lowest_in_cycle W
+  unfolding held_to unbound in_force begun
+  lowest_in_cycle_held by_HBCS = lowest_in_cycle_begun _ _ _ _ W
+  lowest_in_cycle_held by_cheapest = lowest_in_cycle_begun _ _ _ _ W
+  lowest_in_cycle_held by_HEFT = lowest_in_cycle_begun _ _ _ _ W

@@ -12,56 +12,56 @@ use Rattle.std.proofs.Math.ListN.{get_or, length-append, get_or-append}
 use Rattle.std.proofs.lemmas.List.{get_or_at}
 use Rattle.rules.specs.Folds.{listing}
 use Rattle.laws.specs.Numbers.{below_next}
-use Rattle.laws.specs.Fold.{Joins, fold_next, fold_same, fold-mapped}
+use Rattle.laws.specs.Fold.{Joins, fold_next, fold_same, fold_mapped}
 
-abbrev pub with-last {ℓ} : {A : Type ℓ} → List A → A → List A
-with-last xs x = xs ++ (x ∷ [])
+abbrev pub with_last {ℓ} : {A : Type ℓ} → List A → A → List A
+with_last xs x = xs ++ (x ∷ [])
 
-listing-joins {ℓ} : {A : Type ℓ} → Joins {A = A} with-last listing
+listing_joins {ℓ} : {A : Type ℓ} → Joins {A = A} with_last listing
 unfolding listing
-listing-joins k f = refl
+listing_joins k f = refl
 
 module _ {ℓ} {A : Type ℓ} (k : ℕ) (f : ℕ → A) where
-  pub listing-next : {x r : List A} → x ≡ listing k f → r ≡ with-last x (f k) → r ≡ listing (k + 1) f
-  listing-next = fold_next with-last listing listing-joins k f
+  pub listing_next : {x r : List A} → x ≡ listing k f → r ≡ with_last x (f k) → r ≡ listing (k + 1) f
+  listing_next = fold_next with_last listing listing_joins k f
 
-  pub listing-same : (g : ℕ → A) → ((i : ℕ) → i < k → f i ≡ g i) → listing k f ≡ listing k g
-  listing-same g = fold_same with-last listing listing-joins k f g (unfold listing in refl)
+  pub listing_same : (g : ℕ → A) → ((i : ℕ) → i < k → f i ≡ g i) → listing k f ≡ listing k g
+  listing_same g = fold_same with_last listing listing_joins k f g (unfold listing in refl)
 
-  pub listing-mapped {κ} : {B : Type κ} (g : A → B) → listing k (λ i. g (f i)) ≡ map g (listing k f)
+  pub listing_mapped {κ} : {B : Type κ} (g : A → B) → listing k (λ i. g (f i)) ≡ map g (listing k f)
   unfolding listing
-  listing-mapped g =
-      fold-mapped with-last listing listing-joins with-last listing listing-joins g (map g) (λ xs x. sym (map-append g xs (x ∷ []))) k f refl
+  listing_mapped g =
+      fold_mapped with_last listing listing_joins with_last listing listing_joins g (map g) (λ xs x. sym (map-append g xs (x ∷ []))) k f refl
 
 module _ {ℓ} {A : Type ℓ} (f : ℕ → A) where
-  pub length-listing : (k : ℕ) → length (listing k f) ≡ k
+  pub length_listing : (k : ℕ) → length (listing k f) ≡ k
   unfolding listing
-  length-listing zero = refl
-  length-listing (suc k) = length-append (listing k f) (f k ∷ []) ∙ ap (λ n. n + 1) (length-listing k) ∙ add-one k
+  length_listing zero = refl
+  length_listing (suc k) = length-append (listing k f) (f k ∷ []) ∙ ap (λ n. n + 1) (length_listing k) ∙ add-one k
 
-  pub take-listing : (k : ℕ) (more : List A) → take k (listing k f ++ more) ≡ listing k f
-  take-listing k more = take_at (listing k f) more k (length-listing k)
+  pub take_listing : (k : ℕ) (more : List A) → take k (listing k f ++ more) ≡ listing k f
+  take_listing k more = take_at (listing k f) more k (length_listing k)
 
-  pub getD-listing : (k : ℕ) (d : A) (i : ℕ) → i < k → get_or (listing k f) i d ≡ f i
+  pub getD_listing : (k : ℕ) (d : A) (i : ℕ) → i < k → get_or (listing k f) i d ≡ f i
   unfolding listing
-  getD-listing zero d i l = absurd (omega arith)
-  getD-listing (suc k) d i l =
-      below_next (λ n. get_or (with-last (listing k f) (f k)) n d ≡ f n) k (get_or_at (listing k f) (f k) [] d k (length-listing k))
-      (λ n m. get_or-append (listing k f) (f k ∷ []) d n (rw (length-listing k) m) ∙ getD-listing k d n m)
+  getD_listing zero d i l = absurd (omega arith)
+  getD_listing (suc k) d i l =
+      below_next (λ n. get_or (with_last (listing k f) (f k)) n d ≡ f n) k (get_or_at (listing k f) (f k) [] d k (length_listing k))
+      (λ n m. get_or-append (listing k f) (f k ∷ []) d n (rw (length_listing k) m) ∙ getD_listing k d n m)
       i l
 
   -- Each value stands in it, and nothing else does.
-  pub stands-in-listing : (k i : ℕ) → i < k → Memᴰ (f i) (listing k f)
+  pub stands_in_listing : (k i : ℕ) → i < k → Memᴰ (f i) (listing k f)
   unfolding listing
-  stands-in-listing zero i l = absurd (omega arith)
-  stands-in-listing (suc k) i l =
-      below_next (λ n. Memᴰ (f n) (with-last (listing k f) (f k))) k (Memᴰ.append_right (listing k f) (Memᴰ.head refl))
-      (λ n m. Memᴰ.append_left (f k ∷ []) (stands-in-listing k n m))
+  stands_in_listing zero i l = absurd (omega arith)
+  stands_in_listing (suc k) i l =
+      below_next (λ n. Memᴰ (f n) (with_last (listing k f) (f k))) k (Memᴰ.append_right (listing k f) (Memᴰ.head refl))
+      (λ n m. Memᴰ.append_left (f k ∷ []) (stands_in_listing k n m))
       i l
 
-  pub in-listing : (k : ℕ) {x : A} → Memᴰ x (listing k f) → (i : ℕ) × (i < k) × (x ≡ f i)
+  pub in_listing : (k : ℕ) {x : A} → Memᴰ x (listing k f) → (i : ℕ) × (i < k) × (x ≡ f i)
   unfolding listing
-  in-listing zero m = absurd (Memᴰ.not-nil m)
-  in-listing (suc k) m =
-      ⊎_elim (λ h. let (i, l, e) = in-listing k h in (i, omega arith, e)) (λ h. (k, omega arith, Memᴰ.eq_of_singleton h))
+  in_listing zero m = absurd (Memᴰ.not-nil m)
+  in_listing (suc k) m =
+      ⊎_elim (λ h. let (i, l, e) = in_listing k h in (i, omega arith, e)) (λ h. (k, omega arith, Memᴰ.eq_of_singleton h))
       (Memᴰ.append_cases (listing k f) m)

@@ -7,59 +7,59 @@ use borrow.Author.Tests.{eqb-true, eq-eqb, not-true}
 use Rattle.rules.specs.Folds.{any}
 use Rattle.rules.specs.Workflow.{Workflow}
 use Rattle.rules.specs.Cycle.{Leads, edge}
-use Rattle.rules.specs.Ranks.{waits, may-be-next, next-task}
-use Rattle.laws.specs.Tests.{and_both, false-unless-true, true-unless-false}
-use Rattle.laws.specs.Any.{any-attained, any-holds}
+use Rattle.rules.specs.Ranks.{waits, may_be_next, next_task}
+use Rattle.laws.specs.Tests.{and_both, false_unless_true, true_unless_false}
+use Rattle.laws.specs.Any.{any_attained, any_holds}
 use Rattle.laws.specs.First.{first_below, first_passes}
-use Rattle.laws.specs.Leads.{leads-on}
-use Rattle.laws.specs.Onward.{some-after-itself}
-use Rattle.laws.specs.Unmarked.{count-unmarked, some-unmarked}
+use Rattle.laws.specs.Leads.{leads_on}
+use Rattle.laws.specs.Onward.{some_after_itself}
+use Rattle.laws.specs.Unmarked.{count_unmarked, some_unmarked}
 
 -- "unplaced tasks whose predecessors are all placed": i is one of them.
 pub record MayBeNext (W : Workflow) (placed : ℕ → Bool) (i : ℕ) : Type 0 where
   pub left : placed i ≡ false
-  pub predecessors-placed : (e : ℕ) → e < W.edges → W.to e ≡ i → placed (W.from e) ≡ true
+  pub predecessors_placed : (e : ℕ) → e < W.edges → W.to e ≡ i → placed (W.from e) ≡ true
 
 -- Every edge comes from a task.
 abbrev pub EdgesBegin : Workflow → Type 0
 EdgesBegin W = (e : ℕ) → e < W.edges → W.from e < W.tasks
 
 module _ (W : Workflow) (placed : ℕ → Bool) where
-  abbrev waits-at : ℕ → ℕ → Bool
-  waits-at i e = eqb (W.to e) i && not (placed (W.from e))
+  abbrev waits_at : ℕ → ℕ → Bool
+  waits_at i e = eqb (W.to e) i && not (placed (W.from e))
 
   -- The tests say what they are called after.
-  waits-told : (i : ℕ) → waits W placed i ≡ true → (e : ℕ) × (e < W.edges) × (W.to e ≡ i) × (placed (W.from e) ≡ false)
+  waits_told : (i : ℕ) → waits W placed i ≡ true → (e : ℕ) × (e < W.edges) × (W.to e ≡ i) × (placed (W.from e) ≡ false)
   unfolding waits
-  waits-told i h =
-      let (e, l, both) = any-attained W.edges (waits-at i) h in
+  waits_told i h =
+      let (e, l, both) = any_attained W.edges (waits_at i) h in
       let (to, left) = and_both (eqb (W.to e) i) (not (placed (W.from e))) both in
       (e, l, eqb-true (W.to e) i to, not-true _ left)
 
-  pub may-be-next-told : (i : ℕ) → may-be-next W placed i ≡ true → MayBeNext W placed i
-  unfolding may-be-next waits
-  may-be-next-told i h =
+  pub may_be_next_told : (i : ℕ) → may_be_next W placed i ≡ true → MayBeNext W placed i
+  unfolding may_be_next waits
+  may_be_next_told i h =
       let (left, none) = and_both (not (placed i)) (not (waits W placed i)) h in
       record {
         left = not-true _ left;
-        predecessors-placed = λ e l to.
-            true-unless-false (placed (W.from e)) (λ free.
-            false≢true (sym (not-true _ none) ∙ any-holds W.edges (waits-at i) e l (ap₂ ◌&&◌ (eq-eqb (W.to e) i to) (ap not free))));
+        predecessors_placed = λ e l to.
+            true_unless_false (placed (W.from e)) (λ free.
+            false≢true (sym (not-true _ none) ∙ any_holds W.edges (waits_at i) e l (ap₂ ◌&&◌ (eq-eqb (W.to e) i to) (ap not free))));
       }
 
-  pub may-be-next-tested : (i : ℕ) → MayBeNext W placed i → may-be-next W placed i ≡ true
-  unfolding may-be-next
-  may-be-next-tested i may =
+  pub may_be_next_tested : (i : ℕ) → MayBeNext W placed i → may_be_next W placed i ≡ true
+  unfolding may_be_next
+  may_be_next_tested i may =
       ap₂ ◌&&◌ (ap not may.left)
-      (ap not (false-unless-true (waits W placed i) (λ h.
-      let (e, l, to, free) = waits-told i h in
-      false≢true (sym free ∙ may.predecessors-placed e l to))))
+      (ap not (false_unless_true (waits W placed i) (λ h.
+      let (e, l, to, free) = waits_told i h in
+      false≢true (sym free ∙ may.predecessors_placed e l to))))
 
   -- A task that is not placed and is not one of those waits for a predecessor.
-  pub held-by-one :
-      (i : ℕ) → placed i ≡ false → may-be-next W placed i ≡ false → (e : ℕ) × (e < W.edges) × (W.to e ≡ i) × (placed (W.from e) ≡ false)
-  unfolding may-be-next
-  held-by-one i free none = waits-told i (true-unless-false (waits W placed i) (λ h. false≢true (sym none ∙ rw (free, h) refl)))
+  pub held_by_one :
+      (i : ℕ) → placed i ≡ false → may_be_next W placed i ≡ false → (e : ℕ) × (e < W.edges) × (W.to e ≡ i) × (placed (W.from e) ≡ false)
+  unfolding may_be_next
+  held_by_one i free none = waits_told i (true_unless_false (waits W placed i) (λ h. false≢true (sym none ∙ rw (free, h) refl)))
 
   module _ (begin : EdgesBegin W) (acyclic : (i : ℕ) → Leads W i i → ⊥) where
     -- One of a kind that goes back along every edge: going back from one that is not placed to a predecessor that is not, one comes to an end.
@@ -68,29 +68,29 @@ module _ (W : Workflow) (placed : ℕ → Bool) where
       Left i = (placed i ≡ false) × (kind i ≡ true)
 
       abbrev test : ℕ → Bool
-      test i = kind i && may-be-next W placed i
+      test i = kind i && may_be_next W placed i
 
       goes_on : any W.tasks test ≡ false → (i : ℕ) → i < W.tasks → Left i → (k : ℕ) × (k < W.tasks) × Leads W k i × Left k
       goes_on none i l (free, is) =
-          let held : may-be-next W placed i ≡ false =
-          false-unless-true (may-be-next W placed i) (λ may. false≢true (sym none ∙ any-holds W.tasks test i l (ap₂ ◌&&◌ is may))) in
-          let (e, b, to, left) = held-by-one i free held in
+          let held : may_be_next W placed i ≡ false =
+          false_unless_true (may_be_next W placed i) (λ may. false≢true (sym none ∙ any_holds W.tasks test i l (ap₂ ◌&&◌ is may))) in
+          let (e, b, to, left) = held_by_one i free held in
           (W.from e, begin e b, subst (Leads W (W.from e)) to (edge e b), (left, back e b (rw to is)))
 
-      pub some-may-be-next : (i : ℕ) → i < W.tasks → placed i ≡ false → kind i ≡ true → (k : ℕ) × (k < W.tasks) × (kind k ≡ true) × MayBeNext W placed k
-      some-may-be-next i l free is =
+      pub some_may_be_next : (i : ℕ) → i < W.tasks → placed i ≡ false → kind i ≡ true → (k : ℕ) × (k < W.tasks) × (kind k ≡ true) × MayBeNext W placed k
+      some_may_be_next i l free is =
           let found : any W.tasks test ≡ true =
-          true-unless-false (any W.tasks test) (λ none.
-          let (k, m, loop) = some-after-itself W.tasks (Leads W) (λ x y z p q. leads-on W q p) Left (goes_on none) i l (free, is) in
+          true_unless_false (any W.tasks test) (λ none.
+          let (k, m, loop) = some_after_itself W.tasks (Leads W) (λ x y z p q. leads_on W q p) Left (goes_on none) i l (free, is) in
           acyclic k loop) in
-          let (k, below, both) = any-attained W.tasks test found in
-          let (kinds, may) = and_both (kind k) (may-be-next W placed k) both in
-          (k, below, kinds, may-be-next-told k may)
+          let (k, below, both) = any_attained W.tasks test found in
+          let (kinds, may) = and_both (kind k) (may_be_next W placed k) both in
+          (k, below, kinds, may_be_next_told k may)
 
     -- While a task is not placed, the next is a task, and one of those.
-    pub next-task-may : 1 ≤ count-unmarked W.tasks placed → (next-task W placed < W.tasks) × MayBeNext W placed (next-task W placed)
-    unfolding next-task
-    next-task-may left =
-        let (i, below, free) = some-unmarked placed W.tasks left in
-        let (k, m, is, may) = some-may-be-next (λ k. true) (λ e l h. refl) i below free refl in
-        (first_below W.tasks _ (omega arith), may-be-next-told _ (first_passes (may-be-next W placed) _ W.tasks k m (may-be-next-tested k may)))
+    pub next_task_may : 1 ≤ count_unmarked W.tasks placed → (next_task W placed < W.tasks) × MayBeNext W placed (next_task W placed)
+    unfolding next_task
+    next_task_may left =
+        let (i, below, free) = some_unmarked placed W.tasks left in
+        let (k, m, is, may) = some_may_be_next (λ k. true) (λ e l h. refl) i below free refl in
+        (first_below W.tasks _ (omega arith), may_be_next_told _ (first_passes (may_be_next W placed) _ W.tasks k m (may_be_next_tested k may)))

@@ -6,9 +6,9 @@ use Rattle.std.proofs.Common.{sym, subst, ⊎_elim, arith, eqb-true}
 use Rattle.std.proofs.lemmas.Bool.{false≢true}
 use Rattle.rules.specs.Workflow.{Workflow}
 use Rattle.rules.specs.Cycle.{Leads, edge}
-use Rattle.laws.specs.Tests.{or-either, false-unless-true, true-unless-false}
-use Rattle.laws.specs.Unmarked.{count-unmarked, and-marked, sum-unmarked-less, count-unmarked-at-first}
-use Rattle.laws.specs.Leads.{leads-on}
+use Rattle.laws.specs.Tests.{or_either, false_unless_true, true_unless_false}
+use Rattle.laws.specs.Unmarked.{count_unmarked, and_marked, sum_unmarked_less, count_unmarked_at_first}
+use Rattle.laws.specs.Leads.{leads_on}
 use Rattle.laws.specs.Cycles.{EdgesEnd}
 
 -- `After k i`: one comes from i to k, in steps.
@@ -20,37 +20,37 @@ module _ (below : ℕ) (After : ℕ → ℕ → Type 0) (on : (i j k : ℕ) → 
   -- From i on, with what was passed on the way to i.
   goes_back :
       (n : ℕ) (passed : ℕ → Bool) (i : ℕ) → i < below → Kind i → ((k : ℕ) → passed k ≡ true → After i k)
-      → count-unmarked below passed ≤ n → SomeAfterItself
+      → count_unmarked below passed ≤ n → SomeAfterItself
   goes_back zero passed i l kind after few =
       let again : passed i ≡ true =
-      true-unless-false (passed i) (λ free. omega (arith, sum-unmarked-less passed (λ k. 1) below i l free)) in
+      true_unless_false (passed i) (λ free. omega (arith, sum_unmarked_less passed (λ k. 1) below i l free)) in
       (i, l, after i again)
   goes_back (suc n) passed i l kind after few =
       let (k, m, step, onward) = next i l kind in
       either (passed i) refl
       (λ fewer.
-      goes_back n (and-marked i passed) k m onward
+      goes_back n (and_marked i passed) k m onward
       (λ x h.
-      ⊎_elim (λ q. subst (After k) (eqb-true i x q) step) (λ p. on x i k (after x p) step) (or-either (eqb i x) (passed x) h))
+      ⊎_elim (λ q. subst (After k) (eqb-true i x q) step) (λ p. on x i k (after x p) step) (or_either (eqb i x) (passed x) h))
       fewer)
     where
-      either : (t : Bool) → passed i ≡ t → (count-unmarked below (and-marked i passed) ≤ n → SomeAfterItself) → SomeAfterItself
+      either : (t : Bool) → passed i ≡ t → (count_unmarked below (and_marked i passed) ≤ n → SomeAfterItself) → SomeAfterItself
       either true again onward = (i, l, after i again)
-      either false free onward = onward (omega (arith, sum-unmarked-less passed (λ k. 1) below i l free))
+      either false free onward = onward (omega (arith, sum_unmarked_less passed (λ k. 1) below i l free))
 
-  pub some-after-itself : (i : ℕ) → i < below → Kind i → SomeAfterItself
-  some-after-itself i l kind =
-      goes_back below (λ k. false) i l kind (λ k h. absurd (false≢true h)) (omega (arith, count-unmarked-at-first below))
+  pub some_after_itself : (i : ℕ) → i < below → Kind i → SomeAfterItself
+  some_after_itself i l kind =
+      goes_back below (λ k. false) i l kind (λ k h. absurd (false≢true h)) (omega (arith, count_unmarked_at_first below))
 
 -- An edge from i to a task of the kind.
 abbrev pub HasNext : Workflow → (ℕ → Type 0) → ℕ → Type 0
 HasNext W Kind i = (e : ℕ) × (e < W.edges) × (W.from e ≡ i) × Kind (W.to e)
 
-pub some-leads-back :
+pub some_leads_back :
     (W : Workflow) → EdgesEnd W → (Kind : ℕ → Type 0) → ((i : ℕ) → i < W.tasks → Kind i → HasNext W Kind i)
     → (i : ℕ) → i < W.tasks → Kind i → (k : ℕ) × (k < W.tasks) × Leads W k k
-some-leads-back W ends Kind next =
-    some-after-itself W.tasks (λ k i. Leads W i k) (λ i j k. leads-on W) Kind (λ i l kind.
+some_leads_back W ends Kind next =
+    some_after_itself W.tasks (λ k i. Leads W i k) (λ i j k. leads_on W) Kind (λ i l kind.
     let (e, b, from, onward) = next i l kind in
     (W.to e, ends e b, subst (λ k. Leads W k (W.to e)) from (edge e b), onward))
 
@@ -58,22 +58,22 @@ some-leads-back W ends Kind next =
 module _ (W : Workflow) (ends : EdgesEnd W) (acyclic : (i : ℕ) → Leads W i i → ⊥) (Holds : (steps i : ℕ) → Type 0)
     (step : (n i : ℕ) → i < W.tasks → ((e : ℕ) → e < W.edges → W.from e ≡ i → Holds n (W.to e)) → Holds (suc n) i) where
   -- At i, where the steps are no fewer than the tasks that no path to i has passed.
-  holds-from :
+  holds_from :
       (n : ℕ) (passed : ℕ → Bool) (i : ℕ) → i < W.tasks → passed i ≡ false → ((k : ℕ) → passed k ≡ true → Leads W k i)
-      → count-unmarked W.tasks passed ≤ n → Holds n i
-  holds-from zero passed i l free lead few = absurd (omega (arith, sum-unmarked-less passed (λ k. 1) W.tasks i l free))
-  holds-from (suc n) passed i l free lead few =
+      → count_unmarked W.tasks passed ≤ n → Holds n i
+  holds_from zero passed i l free lead few = absurd (omega (arith, sum_unmarked_less passed (λ k. 1) W.tasks i l free))
+  holds_from (suc n) passed i l free lead few =
       step n i l (λ e b from.
       let onward : Leads W i (W.to e) = subst (λ k. Leads W k (W.to e)) from (edge e b) in
-      holds-from n (and-marked i passed) (W.to e) (ends e b)
-      (false-unless-true (and-marked i passed (W.to e)) (λ h.
-      ⊎_elim (λ q. acyclic i (subst (Leads W i) (sym (eqb-true i (W.to e) q)) onward)) (λ p. acyclic i (leads-on W onward (lead (W.to e) p)))
-      (or-either (eqb i (W.to e)) (passed (W.to e)) h)))
+      holds_from n (and_marked i passed) (W.to e) (ends e b)
+      (false_unless_true (and_marked i passed (W.to e)) (λ h.
+      ⊎_elim (λ q. acyclic i (subst (Leads W i) (sym (eqb-true i (W.to e) q)) onward)) (λ p. acyclic i (leads_on W onward (lead (W.to e) p)))
+      (or_either (eqb i (W.to e)) (passed (W.to e)) h)))
       (λ k h.
-      ⊎_elim (λ q. subst (λ x. Leads W x (W.to e)) (eqb-true i k q) onward) (λ p. leads-on W (lead k p) onward)
-      (or-either (eqb i k) (passed k) h))
-      (omega (arith, sum-unmarked-less passed (λ k. 1) W.tasks i l free)))
+      ⊎_elim (λ q. subst (λ x. Leads W x (W.to e)) (eqb-true i k q) onward) (λ p. leads_on W (lead k p) onward)
+      (or_either (eqb i k) (passed k) h))
+      (omega (arith, sum_unmarked_less passed (λ k. 1) W.tasks i l free)))
 
-  pub holds-at-last : (i : ℕ) → i < W.tasks → Holds W.tasks i
-  holds-at-last i l =
-      holds-from W.tasks (λ k. false) i l refl (λ k h. absurd (false≢true h)) (omega (arith, count-unmarked-at-first W.tasks))
+  pub holds_at_last : (i : ℕ) → i < W.tasks → Holds W.tasks i
+  holds_at_last i l =
+      holds_from W.tasks (λ k. false) i l refl (λ k h. absurd (false≢true h)) (omega (arith, count_unmarked_at_first W.tasks))

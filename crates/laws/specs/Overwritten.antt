@@ -7,46 +7,46 @@ use Rattle.std.proofs.Math.Decide.{dec_lt}
 use Rattle.std.proofs.Math.ListN.{get_or-append}
 use Rattle.std.proofs.Math.Seq.{drop-cons}
 use Rattle.rules.specs.Folds.{listing}
-use Rattle.laws.specs.Listing.{listing-mapped, length-listing, getD-listing}
+use Rattle.laws.specs.Listing.{listing_mapped, length_listing, getD_listing}
 
 abbrev pub overwritten {ℓ} : {A : Type ℓ} → ℕ → (ℕ → A) → List A → List A
 overwritten k f xs = listing k f ++ drop k xs
 
-map-drop {ℓ κ} : {A : Type ℓ} {B : Type κ} (g : A → B) (k : ℕ) (xs : List A) → map g (drop k xs) ≡ drop k (map g xs)
-map-drop g zero xs = refl
-map-drop g (suc k) [] = refl
-map-drop g (suc k) (x ∷ xs) = map-drop g k xs
+map_drop {ℓ κ} : {A : Type ℓ} {B : Type κ} (g : A → B) (k : ℕ) (xs : List A) → map g (drop k xs) ≡ drop k (map g xs)
+map_drop g zero xs = refl
+map_drop g (suc k) [] = refl
+map_drop g (suc k) (x ∷ xs) = map_drop g k xs
 
 module _ {ℓ} {A : Type ℓ} (k : ℕ) (f : ℕ → A) (xs : List A) where
-  pub length-overwritten : k ≤ length xs → length (overwritten k f xs) ≡ length xs
-  length-overwritten l =
-      length-append (listing k f) (drop k xs) ∙ ap₂ ◌+◌ (length-listing f k) (length-drop k xs) ∙ omega arith
+  pub length_overwritten : k ≤ length xs → length (overwritten k f xs) ≡ length xs
+  length_overwritten l =
+      length-append (listing k f) (drop k xs) ∙ ap₂ ◌+◌ (length_listing f k) (length-drop k xs) ∙ omega arith
 
-  pub overwritten-next : k < length xs → set (overwritten k f xs) k (f k) ≡ overwritten (k + 1) f xs
+  pub overwritten_next : k < length xs → set (overwritten k f xs) k (f k) ≡ overwritten (k + 1) f xs
   unfolding listing
-  overwritten-next l =
-      rw (add-one, drop-cons xs k (f k), append_assoc) (set_at (listing k f) _ (drop (suc k) xs) (f k) k (length-listing f k))
+  overwritten_next l =
+      rw (add-one, drop-cons xs k (f k), append_assoc) (set_at (listing k f) _ (drop (suc k) xs) (f k) k (length_listing f k))
 
-  pub overwritten-more : {ys : List A} {x : A} → ys ≡ overwritten k f xs → x ≡ f k → k < length xs → set ys k x ≡ overwritten (k + 1) f xs
-  overwritten-more so_far value l = rw (so_far, value) (overwritten-next l)
+  pub overwritten_more : {ys : List A} {x : A} → ys ≡ overwritten k f xs → x ≡ f k → k < length xs → set ys k x ≡ overwritten (k + 1) f xs
+  overwritten_more so_far value l = rw (so_far, value) (overwritten_next l)
 
-  pub overwritten-mapped {κ} : {B : Type κ} (g : A → B) → overwritten k (λ i. g (f i)) (map g xs) ≡ map g (overwritten k f xs)
-  overwritten-mapped g = ap₂ ◌++◌ (listing-mapped k f g) (sym (map-drop g k xs)) ∙ sym (map-append g (listing k f) (drop k xs))
+  pub overwritten_mapped {κ} : {B : Type κ} (g : A → B) → overwritten k (λ i. g (f i)) (map g xs) ≡ map g (overwritten k f xs)
+  overwritten_mapped g = ap₂ ◌++◌ (listing_mapped k f g) (sym (map_drop g k xs)) ∙ sym (map-append g (listing k f) (drop k xs))
 
-  pub overwritten-below : (d : A) (i : ℕ) → i < k → get_or (overwritten k f xs) i d ≡ f i
-  overwritten-below d i l = get_or-append (listing k f) (drop k xs) d i (rw (length-listing f k) l) ∙ getD-listing f k d i l
+  pub overwritten_below : (d : A) (i : ℕ) → i < k → get_or (overwritten k f xs) i d ≡ f i
+  overwritten_below d i l = get_or-append (listing k f) (drop k xs) d i (rw (length_listing f k) l) ∙ getD_listing f k d i l
 
-  pub overwritten-behind : (d : A) (i : ℕ) → k ≤ i → get_or (overwritten k f xs) i d ≡ get_or xs i d
-  overwritten-behind d i l = let e : k + (i - k) ≡ i = omega arith in rw e at (go (i - k))
+  pub overwritten_behind : (d : A) (i : ℕ) → k ≤ i → get_or (overwritten k f xs) i d ≡ get_or xs i d
+  overwritten_behind d i l = let e : k + (i - k) ≡ i = omega arith in rw e at (go (i - k))
     where
       go : (more : ℕ) → get_or (overwritten k f xs) (k + more) d ≡ get_or xs (k + more) d
       go more =
-          ap (λ n. get_or (overwritten k f xs) (n + more) d) (sym (length-listing f k)) ∙ get_or-append-add (listing k f) (drop k xs) more d ∙ get_or-drop k xs more d
+          ap (λ n. get_or (overwritten k f xs) (n + more) d) (sym (length_listing f k)) ∙ get_or-append-add (listing k f) (drop k xs) more d ∙ get_or-drop k xs more d
 
   -- A list that has these values at its front already.
-  pub overwritten-as-it-is : (d : A) → k ≤ length xs → ((i : ℕ) → i < k → get_or xs i d ≡ f i) → xs ≡ overwritten k f xs
-  overwritten-as-it-is d l front = ext_get_or d xs (overwritten k f xs) (sym (length-overwritten l)) (λ i m. go i (dec_lt i k))
+  pub overwritten_as_it_is : (d : A) → k ≤ length xs → ((i : ℕ) → i < k → get_or xs i d ≡ f i) → xs ≡ overwritten k f xs
+  overwritten_as_it_is d l front = ext_get_or d xs (overwritten k f xs) (sym (length_overwritten l)) (λ i m. go i (dec_lt i k))
     where
       go : (i : ℕ) → Dec (i < k) → get_or xs i d ≡ get_or (overwritten k f xs) i d
-      go i (yes b) = front i b ∙ sym (overwritten-below d i b)
-      go i (no b) = sym (overwritten-behind d i (omega arith))
+      go i (yes b) = front i b ∙ sym (overwritten_below d i b)
+      go i (no b) = sym (overwritten_behind d i (omega arith))

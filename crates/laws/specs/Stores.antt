@@ -15,14 +15,14 @@ stored xs i x d k h = go (ℕ_discrete i k)
     go (no n) = rw (ne_eqb i k n) (get_or-set_other xs i k x d (λ e. n (sym e)))
 
 -- An array that holds f, after a store: it holds g, which is f with x at i.
-pub stored-holds {ℓ} : {A : Type ℓ} (xs : List A) (f g : ℕ → A) (i : ℕ) (x d : A) → i < length xs
+pub stored_holds {ℓ} : {A : Type ℓ} (xs : List A) (f g : ℕ → A) (i : ℕ) (x d : A) → i < length xs
     → ((k : ℕ) → get_or xs k d ≡ f k) → ((k : ℕ) → cond (eqb i k) x (f k) ≡ g k) → (k : ℕ) → get_or (set xs i x) k d ≡ g k
-stored-holds xs f g i x d l holds with-x k = stored xs i x d k l ∙ ap (cond (eqb i k) x) (holds k) ∙ with-x k
+stored_holds xs f g i x d l holds with_x k = stored xs i x d k l ∙ ap (cond (eqb i k) x) (holds k) ∙ with_x k
 
 -- What holds of each value below i, and of the one that is stored at i, holds of each below i + 1.
-pub stored-below {ℓ} : {A : Type ℓ} (P : ℕ → A → Type 0) (xs : List A) (i : ℕ) (x d : A) → i < length xs
+pub stored_below {ℓ} : {A : Type ℓ} (P : ℕ → A → Type 0) (xs : List A) (i : ℕ) (x d : A) → i < length xs
     → ((k : ℕ) → k < i → P k (get_or xs k d)) → P i x → (k : ℕ) → k < i + 1 → P k (get_or (set xs i x) k d)
-stored-below P xs i x d h below here =
+stored_below P xs i x d h below here =
     below_more (λ k. P k (get_or (set xs i x) k d)) i
     (λ k l. rw (get_or-set_other xs i k x d (λ e. omega arith)) (below k l))
     (rw (get_or-set_same xs i x d h) here)

@@ -7,43 +7,43 @@ use Rattle.std.proofs.Math.Bool.{true, false, true≢false}
 use Rattle.std.proofs.lemmas.Bool.{false≢true}
 use Rattle.std.proofs.Math.Decide.{dec_le}
 use Rattle.rules.specs.Orders.{Order, tie, lower, higher, among, first}
-use Rattle.laws.specs.Tests.{cond_either, or-neither, false-unless-true, true-unless-false}
+use Rattle.laws.specs.Tests.{cond_either, or_neither, false_unless_true, true_unless_false}
 use Rattle.laws.specs.Numbers.{below_next}
-use Rattle.laws.specs.Orders.{flipped, higher-lower, lower-true, lower-false}
+use Rattle.laws.specs.Orders.{flipped, higher_lower, lower_true, lower_false}
 
 pub record Strict (beats : Order) : Type 0 where
   pub asymmetric : (i j : ℕ) → beats i j ≡ true → beats j i ≡ false
   pub transitive : (i j k : ℕ) → beats i j ≡ false → beats j k ≡ false → beats i k ≡ false
 
-pub tie-strict : Strict tie
+pub tie_strict : Strict tie
 unfolding tie
-tie-strict = record { asymmetric = λ i j h. refl; transitive = λ i j k h g. refl }
+tie_strict = record { asymmetric = λ i j h. refl; transitive = λ i j k h g. refl }
 
-flipped-strict : {beats : Order} → Strict beats → Strict (flipped beats)
-flipped-strict s = record { asymmetric = λ i j. s.asymmetric j i; transitive = λ i j k h g. s.transitive k j i g h }
+flipped_strict : {beats : Order} → Strict beats → Strict (flipped beats)
+flipped_strict s = record { asymmetric = λ i j. s.asymmetric j i; transitive = λ i j k h g. s.transitive k j i g h }
 
 module _ (f : ℕ → ℕ) {next : Order} (s : Strict next) where
-  pub lower-strict : Strict (lower f next)
-  lower-strict =
+  pub lower_strict : Strict (lower f next)
+  lower_strict =
       record {
         asymmetric = λ i j h.
-            ⊎_elim (λ (l : f i < f j). (lower-false f next j i).1 (omega arith, λ q. absurd (omega arith)))
-            (λ (w : (f i ≡ f j) × (next i j ≡ true)). (lower-false f next j i).1 (omega arith, λ q. s.asymmetric i j w.1))
-            (lower-true f next i j h);
+            ⊎_elim (λ (l : f i < f j). (lower_false f next j i).1 (omega arith, λ q. absurd (omega arith)))
+            (λ (w : (f i ≡ f j) × (next i j ≡ true)). (lower_false f next j i).1 (omega arith, λ q. s.asymmetric i j w.1))
+            (lower_true f next i j h);
         transitive = λ i j k h g.
-            let (l, p) = (lower-false f next i j).0 h in
-            let (m, q) = (lower-false f next j k).0 g in
-            (lower-false f next i k).1 (omega arith, λ e. s.transitive i j k (p (omega arith)) (q (omega arith)));
+            let (l, p) = (lower_false f next i j).0 h in
+            let (m, q) = (lower_false f next j k).0 g in
+            (lower_false f next i k).1 (omega arith, λ e. s.transitive i j k (p (omega arith)) (q (omega arith)));
       }
 
-pub higher-strict : (f : ℕ → ℕ) {next : Order} → Strict next → Strict (higher f next)
-higher-strict f {next} s =
-    subst Strict (fun_ext (λ i. fun_ext (λ j. sym (higher-lower f next i j)))) (flipped-strict (lower-strict f (flipped-strict s)))
+pub higher_strict : (f : ℕ → ℕ) {next : Order} → Strict next → Strict (higher f next)
+higher_strict f {next} s =
+    subst Strict (fun_ext (λ i. fun_ext (λ j. sym (higher_lower f next i j)))) (flipped_strict (lower_strict f (flipped_strict s)))
 
 module _ (test : ℕ → Bool) {next : Order} (s : Strict next) where
-  pub among-strict : Strict (among test next)
+  pub among_strict : Strict (among test next)
   unfolding among
-  among-strict =
+  among_strict =
       record {
         asymmetric = λ i j. asymmetric i j (test i) (test j);
         transitive = λ i j k. transitive i j k (test i) (test j) (test k);
@@ -64,48 +64,48 @@ module _ (test : ℕ → Bool) {next : Order} (s : Strict next) where
 
 module _ {beats : Order} (s : Strict beats) where
   pub irreflexive : (i : ℕ) → beats i i ≡ false
-  irreflexive i = false-unless-true (beats i i) (λ h. true≢false (sym h ∙ s.asymmetric i i h))
+  irreflexive i = false_unless_true (beats i i) (λ h. true≢false (sym h ∙ s.asymmetric i i h))
 
   -- None below k beats the first.
-  pub first-unbeaten : (k i : ℕ) → i < k → beats i (first k beats) ≡ false
+  pub first_unbeaten : (k i : ℕ) → i < k → beats i (first k beats) ≡ false
   unfolding first
-  first-unbeaten zero i l = absurd (omega arith)
-  first-unbeaten (suc k) i l =
+  first_unbeaten zero i l = absurd (omega arith)
+  first_unbeaten (suc k) i l =
       let b = first k beats in
       cond_either (λ z. beats i z ≡ false) (beats k b) k b
       (λ e.
-      below_next (λ n. beats n k ≡ false) k (irreflexive k) (λ n m. s.transitive n b k (first-unbeaten k n m) (s.asymmetric k b e)) i l)
-      (λ e. below_next (λ n. beats n b ≡ false) k e (λ n m. first-unbeaten k n m) i l)
+      below_next (λ n. beats n k ≡ false) k (irreflexive k) (λ n m. s.transitive n b k (first_unbeaten k n m) (s.asymmetric k b e)) i l)
+      (λ e. below_next (λ n. beats n b ≡ false) k e (λ n m. first_unbeaten k n m) i l)
 
   -- It beats each lower number.
-  pub first-beats-lower : (k i : ℕ) → i < first k beats → beats (first k beats) i ≡ true
+  pub first_beats_lower : (k i : ℕ) → i < first k beats → beats (first k beats) i ≡ true
   unfolding first
-  first-beats-lower zero i l = absurd (omega arith)
-  first-beats-lower (suc k) i l =
+  first_beats_lower zero i l = absurd (omega arith)
+  first_beats_lower (suc k) i l =
       let b = first k beats in
       cond_either (λ z. i < z → beats z i ≡ true) (beats k b) k b
-      (λ e m. true-unless-false (beats k i) (λ g. true≢false (sym e ∙ s.transitive k i b g (first-unbeaten k i m))))
-      (λ e m. first-beats-lower k i m)
+      (λ e m. true_unless_false (beats k i) (λ g. true≢false (sym e ∙ s.transitive k i b g (first_unbeaten k i m))))
+      (λ e m. first_beats_lower k i m)
       l
 
 module _ (test : ℕ → Bool) {next : Order} (s : Strict next) (k i : ℕ) (below : i < k) (passes : test i ≡ true) where
   -- None that passes the test beats the first of those.
-  pub first-among-unbeaten : next i (first k (among test next)) ≡ false
-  first-among-unbeaten = go (first k (among test next)) (first-unbeaten (among-strict test s) k i below)
+  pub first_among_unbeaten : next i (first k (among test next)) ≡ false
+  first_among_unbeaten = go (first k (among test next)) (first_unbeaten (among_strict test s) k i below)
     where
       go : (b : ℕ) → among test next i b ≡ false → next i b ≡ false
-      go b h = (or-neither (not (test b)) (next i b) (unfold among in rw passes at h)).1
+      go b h = (or_neither (not (test b)) (next i b) (unfold among in rw passes at h)).1
 
   -- One that passes and ties with it does not stand before it.
-  pub first-among-lowest : next (first k (among test next)) i ≡ false → first k (among test next) ≤ i
-  first-among-lowest h = go (dec_le (first k (among test next)) i)
+  pub first_among_lowest : next (first k (among test next)) i ≡ false → first k (among test next) ≤ i
+  first_among_lowest h = go (dec_le (first k (among test next)) i)
     where
-      not-before : (b : ℕ) (t : Bool) → test b ≡ t → next b i ≡ false → among test next b i ≡ false
-      not-before b true at_b e = unfold among in rw (at_b, passes) e
-      not-before b false at_b e = unfold among in rw at_b
+      not_before : (b : ℕ) (t : Bool) → test b ≡ t → next b i ≡ false → among test next b i ≡ false
+      not_before b true at_b e = unfold among in rw (at_b, passes) e
+      not_before b false at_b e = unfold among in rw at_b
 
       go : Dec (first k (among test next) ≤ i) → first k (among test next) ≤ i
       go (yes l) = l
       go (no l) =
           absurd (true≢false
-          (sym (first-beats-lower (among-strict test s) k i (omega arith)) ∙ not-before (first k (among test next)) (test (first k (among test next))) refl h))
+          (sym (first_beats_lower (among_strict test s) k i (omega arith)) ∙ not_before (first k (among test next)) (test (first k (among test next))) refl h))

@@ -2,56 +2,56 @@
 use Rattle.std.specs.Prelude.{ℕ, zero, suc, ◌+◌, ◌≤◌, ◌<◌, ◌≡◌, refl, Bool, true, false, cond, ◌||◌, eqb}
 use Rattle.std.proofs.Common.{arith, eq-eqb, ne_eqb}
 use Rattle.rules.specs.Folds.{sum}
-use Rattle.laws.specs.Tests.{true-unless-false}
+use Rattle.laws.specs.Tests.{true_unless_false}
 use Rattle.laws.specs.Numbers.{below_next}
-use Rattle.laws.specs.Folds.{sum_same, at-most-sum}
+use Rattle.laws.specs.Folds.{sum_same, at_most_sum}
 
-abbrev pub sum-unmarked : ℕ → (ℕ → Bool) → (ℕ → ℕ) → ℕ
-sum-unmarked k marked f = sum k (λ i. cond (marked i) 0 (f i))
+abbrev pub sum_unmarked : ℕ → (ℕ → Bool) → (ℕ → ℕ) → ℕ
+sum_unmarked k marked f = sum k (λ i. cond (marked i) 0 (f i))
 
 -- How many are not marked.
-abbrev pub count-unmarked : ℕ → (ℕ → Bool) → ℕ
-count-unmarked k marked = sum-unmarked k marked (λ i. 1)
+abbrev pub count_unmarked : ℕ → (ℕ → Bool) → ℕ
+count_unmarked k marked = sum_unmarked k marked (λ i. 1)
 
 -- n is marked, and what was.
-abbrev pub and-marked : ℕ → (ℕ → Bool) → ℕ → Bool
-and-marked n marked i = eqb n i || marked i
+abbrev pub and_marked : ℕ → (ℕ → Bool) → ℕ → Bool
+and_marked n marked i = eqb n i || marked i
 
-pub sum-unmarked-less :
+pub sum_unmarked_less :
     (marked : ℕ → Bool) (f : ℕ → ℕ) (k n : ℕ) → n < k → marked n ≡ false
-    → sum-unmarked k (and-marked n marked) f + f n ≡ sum-unmarked k marked f
+    → sum_unmarked k (and_marked n marked) f + f n ≡ sum_unmarked k marked f
 unfolding sum
-sum-unmarked-less marked f zero n l free = absurd (omega arith)
-sum-unmarked-less marked f (suc k) n l free =
+sum_unmarked_less marked f zero n l free = absurd (omega arith)
+sum_unmarked_less marked f (suc k) n l free =
     below_next
     (λ i.
     marked i ≡ false
-    → sum-unmarked k (and-marked i marked) f + cond (and-marked i marked k) 0 (f k) + f i ≡ sum-unmarked k marked f + cond (marked k) 0 (f k))
+    → sum_unmarked k (and_marked i marked) f + cond (and_marked i marked k) 0 (f k) + f i ≡ sum_unmarked k marked f + cond (marked k) 0 (f k))
     k
-    (λ k-free.
-    let before : sum-unmarked k (and-marked k marked) f ≡ sum-unmarked k marked f = sum_same k _ _ (λ i m. rw (ne_eqb k i (omega arith))) in
-    rw (before, eq-eqb k k refl, k-free) (omega arith))
-    (λ i m i-free. rw (ne_eqb i k (omega arith)) (omega (arith, sum-unmarked-less marked f k i m i-free)))
+    (λ k_free.
+    let before : sum_unmarked k (and_marked k marked) f ≡ sum_unmarked k marked f = sum_same k _ _ (λ i m. rw (ne_eqb k i (omega arith))) in
+    rw (before, eq-eqb k k refl, k_free) (omega arith))
+    (λ i m i_free. rw (ne_eqb i k (omega arith)) (omega (arith, sum_unmarked_less marked f k i m i_free)))
     n l free
 
-pub count-unmarked-at-first : (k : ℕ) → count-unmarked k (λ i. false) ≡ k
+pub count_unmarked_at_first : (k : ℕ) → count_unmarked k (λ i. false) ≡ k
 unfolding sum
-count-unmarked-at-first zero = refl
-count-unmarked-at-first (suc k) = rw (count-unmarked-at-first k) (omega arith)
+count_unmarked_at_first zero = refl
+count_unmarked_at_first (suc k) = rw (count_unmarked_at_first k) (omega arith)
 
-pub some-unmarked : (marked : ℕ → Bool) (k : ℕ) → 1 ≤ count-unmarked k marked → (i : ℕ) × (i < k) × (marked i ≡ false)
+pub some_unmarked : (marked : ℕ → Bool) (k : ℕ) → 1 ≤ count_unmarked k marked → (i : ℕ) × (i < k) × (marked i ≡ false)
 unfolding sum
-some-unmarked marked zero h = absurd (omega arith)
-some-unmarked marked (suc k) h = go (marked k) refl (some-unmarked marked k) h
+some_unmarked marked zero h = absurd (omega arith)
+some_unmarked marked (suc k) h = go (marked k) refl (some_unmarked marked k) h
   where
     go :
-        (t : Bool) → marked k ≡ t → (1 ≤ count-unmarked k marked → (i : ℕ) × (i < k) × (marked i ≡ false))
-        → 1 ≤ count-unmarked k marked + cond t 0 1 → (i : ℕ) × (i < suc k) × (marked i ≡ false)
+        (t : Bool) → marked k ≡ t → (1 ≤ count_unmarked k marked → (i : ℕ) × (i < k) × (marked i ≡ false))
+        → 1 ≤ count_unmarked k marked + cond t 0 1 → (i : ℕ) × (i < suc k) × (marked i ≡ false)
     go true e below some = let w = below (omega arith) in (w.0, omega arith, w.2)
     go false e below some = (k, omega arith, e)
 
-pub none-unmarked : (marked : ℕ → Bool) (k : ℕ) → count-unmarked k marked ≡ 0 → (i : ℕ) → i < k → marked i ≡ true
-none-unmarked marked k none i l =
-    true-unless-false (marked i) (λ free.
-    let counted : 1 ≤ count-unmarked k marked = rw free at (at-most-sum k (λ x. cond (marked x) 0 1) i l) in
+pub none_unmarked : (marked : ℕ → Bool) (k : ℕ) → count_unmarked k marked ≡ 0 → (i : ℕ) → i < k → marked i ≡ true
+none_unmarked marked k none i l =
+    true_unless_false (marked i) (λ free.
+    let counted : 1 ≤ count_unmarked k marked = rw free at (at_most_sum k (λ x. cond (marked x) 0 1) i l) in
     omega arith)

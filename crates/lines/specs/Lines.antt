@@ -12,43 +12,43 @@ use Rattle.decimals.specs.Fields.{field}
 use Rattle.decimals.specs.Wrote.{Room, Wrote, room_next}
 
 -- The line of a task, its row read off four columns.
-unfoldable pub column-line : (s processors starts finishes costs : List ℕ) → ℕ → List ℕ
-column-line s processors starts finishes costs i =
+unfoldable pub column_line : (s processors starts finishes costs : List ℕ) → ℕ → List ℕ
+column_line s processors starts finishes costs i =
     row_line (label s i) (record { processor = at processors i; start = at starts i; finish = at finishes i; cost = at costs i })
 
 -- The lines of the first n tasks.
-abbrev pub column-lines : ℕ → (s processors starts finishes costs : List ℕ) → List ℕ
-column-lines n s processors starts finishes costs = lines n (column-line s processors starts finishes costs)
+abbrev pub column_lines : ℕ → (s processors starts finishes costs : List ℕ) → List ℕ
+column_lines n s processors starts finishes costs = lines n (column_line s processors starts finishes costs)
 
 -- The line of a task, of its label and its row's four numbers.
-abbrev pub fields-line : List ℕ → (processor start finish cost : ℕ) → List ℕ
-fields-line label processor start finish cost =
+abbrev pub fields_line : List ℕ → (processor start finish cost : ℕ) → List ℕ
+fields_line label processor start finish cost =
     row_line label (record { processor = processor; start = start; finish = finish; cost = cost })
 
 -- What opens a line, and two numbers to its end: a refusal's, and the range.
-abbrev pub two-line : List ℕ → (a b : ℕ) → List ℕ
-two-line opening a b = opening ++ line (decimal a) (decimal b ∷ [])
+abbrev pub two_line : List ℕ → (a b : ℕ) → List ℕ
+two_line opening a b = opening ++ line (decimal a) (decimal b ∷ [])
 
-pub two_fields : (opening : List ℕ) (a b : ℕ) → two-line opening a b ≡ opening ++ (field a 32 ++ field b 10)
+pub two_fields : (opening : List ℕ) (a b : ℕ) → two_line opening a b ≡ opening ++ (field a 32 ++ field b 10)
 unfolding line bytes
 two_fields opening a b = simp append_assoc
 
 -- One line per number: the first i of them are no longer than the first n.
-module _ (Line-of : ℕ → List ℕ) where
-  lines-longer : (i n : ℕ) → i ≤ n → length (lines i Line-of) ≤ length (lines n Line-of)
+module _ (Line_of : ℕ → List ℕ) where
+  lines_longer : (i n : ℕ) → i ≤ n → length (lines i Line_of) ≤ length (lines n Line_of)
   unfolding lines
-  lines-longer i zero l = let none : i ≡ 0 = omega arith in rw none (omega arith)
-  lines-longer i (suc n) l =
+  lines_longer i zero l = let none : i ≡ 0 = omega arith in rw none (omega arith)
+  lines_longer i (suc n) l =
       ⊎_elim (λ (e : i ≡ suc n). rw e (omega arith))
-      (λ (m : i < suc n). omega (arith, lines-longer i n (omega arith), length-append (lines n Line-of) (Line-of n)))
+      (λ (m : i < suc n). omega (arith, lines_longer i n (omega arith), length-append (lines n Line_of) (Line_of n)))
       (eq-or-lt_of_le l)
 
-  module _ {out : List ℕ} {at : ℕ} (n : ℕ) (room : Room out at (lines n Line-of)) (i : ℕ) where
+  module _ {out : List ℕ} {at : ℕ} (n : ℕ) (room : Room out at (lines n Line_of)) (i : ℕ) where
     -- Where there is room for n lines there is room for the first i,
-    pub room-lines : i ≤ n → Room out at (lines i Line-of)
-    room-lines l = record { fits = omega (arith, room.fits, lines-longer i n l) }
+    pub room_lines : i ≤ n → Room out at (lines i Line_of)
+    room_lines l = record { fits = omega (arith, room.fits, lines_longer i n l) }
 
     -- and, once these are written, for the next.
-    pub room-line : {out' : List ℕ} {end : ℕ} → i < n → Wrote out at (lines i Line-of) out' end → Room out' end (Line-of i)
+    pub room_line : {out' : List ℕ} {end : ℕ} → i < n → Wrote out at (lines i Line_of) out' end → Room out' end (Line_of i)
     unfolding lines
-    room-line l w = room_next (record { fits = omega (arith, room.fits, lines-longer (suc i) n l) }) w
+    room_line l w = room_next (record { fits = omega (arith, room.fits, lines_longer (suc i) n l) }) w

@@ -1,19 +1,19 @@
 // The lines of the printed plan, written over a lent buffer: the first line, and those of the rows; and the line of the range.
 ghost use Rattle.std.specs.Prelude.{◌≤◌};
-ghost use Rattle.rules.specs.Text.{first-line};
-ghost use Rattle.rules.specs.Range.{range-line};
+ghost use Rattle.rules.specs.Text.{first_line};
+ghost use Rattle.rules.specs.Range.{range_line};
 ghost use Rattle.reader.specs.Meaning.{ViewOf};
-ghost use Rattle.planner.specs.Planned.{meant-answer, meant-costs};
+ghost use Rattle.planner.specs.Planned.{meant_answer, meant_costs};
 ghost use Rattle.decimals.specs.Wrote.{Room, Wrote};
-ghost use Rattle.lines.specs.Lines.{two-line, column-lines, fields-line};
+ghost use Rattle.lines.specs.Lines.{two_line, column_lines, fields_line};
 
 use planner::{Answer, Costs};
 use reader::View;
 
 // What opens a line, and two numbers to its end.
 fn put_two(out: &mut [u8], opening: &[u8], a: u64, b: u64) -> usize
-    requires { Room out.old 0 (two-line opening.now a b) }
-    ensures { Wrote out.old 0 (two-line opening.now a b) out.new result }
+    requires { Room out.old 0 (two_line opening.now a b) }
+    ensures { Wrote out.old 0 (two_line opening.now a b) out.new result }
 {
     let opened = decimals::put_bytes(out, 0, opening);
     let parted = decimals::put_field(out, opened, a, b' ');
@@ -22,8 +22,8 @@ fn put_two(out: &mut [u8], opening: &[u8], a: u64, b: u64) -> usize
 
 // "`plan `, n, length, cost, budget left, [..]; or `no `, number, place"
 pub fn put_first_line(out: &mut [u8], answer: Answer) -> usize
-    requires { Room out.old 0 (first-line (meant-answer answer)) }
-    ensures { Wrote out.old 0 (first-line (meant-answer answer)) out.new result }
+    requires { Room out.old 0 (first_line (meant_answer answer)) }
+    ensures { Wrote out.old 0 (first_line (meant_answer answer)) out.new result }
 {
     match answer {
         Answer::Planned {
@@ -41,8 +41,8 @@ pub fn put_first_line(out: &mut [u8], answer: Answer) -> usize
 
 // "`range `, the cheapest plan's cost, the HEFT plan's cost; or `no `, number, place"
 pub fn put_range_line(out: &mut [u8], costs: Costs) -> usize
-    requires { Room out.old 0 (range-line (meant-costs costs)) }
-    ensures { Wrote out.old 0 (range-line (meant-costs costs)) out.new result }
+    requires { Room out.old 0 (range_line (meant_costs costs)) }
+    ensures { Wrote out.old 0 (range_line (meant_costs costs)) out.new result }
 {
     match costs {
         Costs::Between { cheapest, heft } => put_two(out, b"range ", cheapest, heft),
@@ -62,8 +62,8 @@ fn put_row(
     finish: u64,
     cost: u64,
 ) -> usize
-    requires { Room out.old at (fields-line name.now processor start finish cost) }
-    ensures { Wrote out.old at (fields-line name.now processor start finish cost) out.new result }
+    requires { Room out.old at (fields_line name.now processor start finish cost) }
+    ensures { Wrote out.old at (fields_line name.now processor start finish cost) out.new result }
 {
     let named = decimals::put_bytes(out, at, name);
     let parted = decimals::put_byte(out, named, b' ');
@@ -84,8 +84,8 @@ pub fn put_rows<'a>(
 ) -> usize
     requires view_of { ViewOf s.now v }
     requires n_le_tasks { n ≤ v.tasks }
-    requires room { Room out.old at (column-lines n s.now processors.now starts.now finishes.now costs.now) }
-    ensures { Wrote out.old at (column-lines n s.now processors.now starts.now finishes.now costs.now) out.new result }
+    requires room { Room out.old at (column_lines n s.now processors.now starts.now finishes.now costs.now) }
+    ensures { Wrote out.old at (column_lines n s.now processors.now starts.now finishes.now costs.now) out.new result }
 {
     let mut end = at;
     let mut i = 0;

@@ -13,9 +13,9 @@ pub record LastInto (W : Workflow) (i k r : ℕ) : Type 0 where
 pub record Linked (W : Workflow) (k : ℕ) (last before : List ℕ) : Type 0 where
   pub tasks : length last ≡ 64
   pub edges : length before ≡ 512
-  pub last-into : (i : ℕ) → LastInto W i k (at last i)
-  pub before-into : (e : ℕ) → e < k → LastInto W (W.to e) e (at before e)
-  pub none-beyond : (e : ℕ) → k ≤ e → at before e ≡ 0
+  pub last_into : (i : ℕ) → LastInto W i k (at last i)
+  pub before_into : (e : ℕ) → e < k → LastInto W (W.to e) e (at before e)
+  pub none_beyond : (e : ℕ) → k ≤ e → at before e ≡ 0
 
 -- The links of all edges.
 abbrev pub LinkedAll : Workflow → (last before : List ℕ) → Type 0

@@ -8,24 +8,24 @@ use Rattle.links.specs.Links.{LastInto, LinkedAll}
 
 module _ (W : Workflow) where
   -- No edge is the last where a later one leads to the task.
-  not-later : (i k r t : ℕ) → LastInto W i k r → LastInto W i k t → t ≤ r
-  not-later i k r t a b = go (dec_le t r)
+  not_later : (i k r t : ℕ) → LastInto W i k r → LastInto W i k t → t ≤ r
+  not_later i k r t a b = go (dec_le t r)
     where
       go : Dec (t ≤ r) → t ≤ r
       go (yes h) = h
       go (no h) =
           absurd (a.none_after (t - 1) (omega arith) (omega (arith, b.within)) (b.leads (t - 1) (omega arith)))
 
-  last-into-settled : (i k r t : ℕ) → LastInto W i k r → LastInto W i k t → r ≡ t
-  last-into-settled i k r t a b = omega (arith, not-later i k r t a b, not-later i k t r b a)
+  last_into_settled : (i k r t : ℕ) → LastInto W i k r → LastInto W i k t → r ≡ t
+  last_into_settled i k r t a b = omega (arith, not_later i k r t a b, not_later i k t r b a)
 
   module _ {last before last' before' : List ℕ} (one : LinkedAll W last before) (other : LinkedAll W last' before') where
     before_same : (e : ℕ) → Dec (W.edges ≤ e) → at before e ≡ at before' e
-    before_same e (yes h) = one.none-beyond e h ∙ sym (other.none-beyond e h)
-    before_same e (no h) = last-into-settled (W.to e) e _ _ (one.before-into e (omega arith)) (other.before-into e (omega arith))
+    before_same e (yes h) = one.none_beyond e h ∙ sym (other.none_beyond e h)
+    before_same e (no h) = last_into_settled (W.to e) e _ _ (one.before_into e (omega arith)) (other.before_into e (omega arith))
 
-    pub links-settled : (last ≡ last') × (before ≡ before')
-    links-settled = (
-      ext_get_or 0 last last' (one.tasks ∙ sym other.tasks) (λ i l. last-into-settled i W.edges _ _ (one.last-into i) (other.last-into i)),
+    pub links_settled : (last ≡ last') × (before ≡ before')
+    links_settled = (
+      ext_get_or 0 last last' (one.tasks ∙ sym other.tasks) (λ i l. last_into_settled i W.edges _ _ (one.last_into i) (other.last_into i)),
       ext_get_or 0 before before' (one.edges ∙ sym other.edges) (λ e l. before_same e (dec_le W.edges e)),
     )

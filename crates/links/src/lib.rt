@@ -1,6 +1,6 @@
 // The edges into each task, found from the last to the first.
 ghost use Rattle.reader.specs.Meaning.{ViewOf};
-ghost use Rattle.lookup.specs.Lookup.{workflow-of};
+ghost use Rattle.lookup.specs.Lookup.{workflow_of};
 ghost use Rattle.links.specs.Links.{Linked, LinkedAll};
 
 use reader::View;
@@ -9,8 +9,8 @@ use reader::View;
 // than the last edge before e that leads to the same task as e; 0 where there is none.
 pub fn link_all(s: &[u8], v: View, last: &mut [u16; 64], before: &mut [u16; 512])
     requires view_of { ViewOf s.now v }
-    requires linked { Linked (workflow-of s.now v) 0 last.old before.old }
-    ensures { LinkedAll (workflow-of s.now v) last.new before.new }
+    requires linked { Linked (workflow_of s.now v) 0 last.old before.old }
+    ensures { LinkedAll (workflow_of s.now v) last.new before.new }
 {
     let mut e = 0;
     while e < v.edges {

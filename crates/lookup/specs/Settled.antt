@@ -2,7 +2,7 @@
 -- it stands as well as its bytes.
 use Rattle.std.specs.Prelude.{◌≡◌}
 use Rattle.lookup.specs.declared.Part.{Part}
-use Rattle.lookup.specs.Lookup.{meant-part}
+use Rattle.lookup.specs.Lookup.{meant_part}
 
-pub part-settled : (a b : Part) → meant-part a ≡ meant-part b → a ≡ b
-part-settled a b same = λ i. record { begin = (same i).begin; length = (same i).length }
+pub part_settled : (a b : Part) → meant_part a ≡ meant_part b → a ≡ b
+part_settled a b same = λ i. record { begin = (same i).begin; length = (same i).length }

@@ -1,11 +1,11 @@
 // Numbers and labels of a request, read where they stand in its bytes. Of a good request nothing is tested again.
 ghost use Rattle.std.specs.Prelude.{◌≡◌, ◌+◌, ◌≤◌, ◌<◌, length};
-ghost use Rattle.rules.specs.Fields.{E, size, M-processor, M-begin, M-end};
-ghost use Rattle.rules.specs.Workflow.{window-place, task-place, edge-place};
-ghost use Rattle.rules.specs.Labels.{label-lookup};
-ghost use Rattle.good.specs.Ranges.{request-most};
-ghost use Rattle.reader.specs.Meaning.{ViewOf, meant-view};
-ghost use Rattle.lookup.specs.Lookup.{workflow-of, meant-part, LabelOf};
+ghost use Rattle.rules.specs.Fields.{E, size, M_processor, M_begin, M_end};
+ghost use Rattle.rules.specs.Workflow.{window_place, task_place, edge_place};
+ghost use Rattle.rules.specs.Labels.{label_lookup};
+ghost use Rattle.good.specs.Ranges.{request_most};
+ghost use Rattle.reader.specs.Meaning.{ViewOf, meant_view};
+ghost use Rattle.lookup.specs.Lookup.{workflow_of, meant_part, LabelOf};
 
 use reader::{Reading, View};
 
@@ -21,7 +21,7 @@ pub struct Window {
 pub fn window_of(s: &[u8], v: View, window: usize) -> Window
     requires view_of { ViewOf s.now v }
     requires window_lt_windows { window < v.windows }
-    ensures { (result.processor ≡ M-processor s.now (window-place (meant-view v) window)) × (result.begin ≡ M-begin s.now (window-place (meant-view v) window)) × (result.end ≡ M-end s.now (window-place (meant-view v) window)) }
+    ensures { (result.processor ≡ M_processor s.now (window_place (meant_view v) window)) × (result.begin ≡ M_begin s.now (window_place (meant_view v) window)) × (result.end ≡ M_end s.now (window_place (meant_view v) window)) }
 {
     let at = v.windows_at + window * 10;
     let processor = fields::field(s, at, 1);
@@ -36,8 +36,8 @@ pub fn window_of(s: &[u8], v: View, window: usize) -> Window
 
 // Where the record of a task begins: each has its `T` and a `W` for every processor.
 fn task_place(v: View, task: usize) -> usize
-    requires { (v.processors ≤ 16) × (task-place (meant-view v) task ≤ request-most) }
-    ensures { result ≡ task-place (meant-view v) task }
+    requires { (v.processors ≤ 16) × (task_place (meant_view v) task ≤ request_most) }
+    ensures { result ≡ task_place (meant_view v) task }
 {
     let stride = 10 + v.processors * 5;
     v.tasks_at + task * stride
@@ -47,7 +47,7 @@ fn task_place(v: View, task: usize) -> usize
 pub fn minutes(s: &[u8], v: View, task: usize, processor: usize) -> u64
     requires view_of { ViewOf s.now v }
     requires task_lt_tasks { (task < v.tasks) × (processor < v.processors) }
-    ensures { (result ≡ (workflow-of s.now v).minutes task processor) × (result ≤ 2_000) }
+    ensures { (result ≡ (workflow_of s.now v).minutes task processor) × (result ≤ 2_000) }
 {
     fields::two_bytes(s, task_place(v, task) + (10 + processor * 5), 3)
 }
@@ -56,7 +56,7 @@ pub fn minutes(s: &[u8], v: View, task: usize, processor: usize) -> u64
 fn edge_place(s: &[u8], v: View, edge: usize) -> usize
     requires view_of { ViewOf s.now v }
     requires edge_lt_edges { edge < v.edges }
-    ensures { (result ≡ edge-place (meant-view v) edge) × (result + size E ≤ length s.now) }
+    ensures { (result ≡ edge_place (meant_view v) edge) × (result + size E ≤ length s.now) }
 {
     v.edges_at + edge * 5
 }
@@ -65,7 +65,7 @@ fn edge_place(s: &[u8], v: View, edge: usize) -> usize
 pub fn from(s: &[u8], v: View, edge: usize) -> usize
     requires view_of { ViewOf s.now v }
     requires edge_lt_edges { edge < v.edges }
-    ensures { (result ≡ (workflow-of s.now v).from edge) × (result < v.tasks) }
+    ensures { (result ≡ (workflow_of s.now v).from edge) × (result < v.tasks) }
 {
     fields::field(s, edge_place(s, v, edge), 1)
 }
@@ -74,7 +74,7 @@ pub fn from(s: &[u8], v: View, edge: usize) -> usize
 pub fn to(s: &[u8], v: View, edge: usize) -> usize
     requires view_of { ViewOf s.now v }
     requires edge_lt_edges { edge < v.edges }
-    ensures { (result ≡ (workflow-of s.now v).to edge) × (result < v.tasks) }
+    ensures { (result ≡ (workflow_of s.now v).to edge) × (result < v.tasks) }
 {
     fields::field(s, edge_place(s, v, edge), 2)
 }
@@ -83,7 +83,7 @@ pub fn to(s: &[u8], v: View, edge: usize) -> usize
 pub fn transfer(s: &[u8], v: View, edge: usize) -> u64
     requires view_of { ViewOf s.now v }
     requires edge_lt_edges { edge < v.edges }
-    ensures { (result ≡ (workflow-of s.now v).transfer edge) × (result ≤ 1_000) }
+    ensures { (result ≡ (workflow_of s.now v).transfer edge) × (result ≤ 1_000) }
 {
     fields::two_bytes(s, edge_place(s, v, edge), 3)
 }
@@ -99,7 +99,7 @@ pub struct Part {
 pub fn label_of(s: &[u8], v: View, task: usize) -> Part
     requires view_of { ViewOf s.now v }
     requires task_lt_tasks { task < v.tasks }
-    ensures { meant-part result ≡ label-lookup s.now task }
+    ensures { meant_part result ≡ label_lookup s.now task }
 {
     let begin = task_place(v, task) + 2;
     let length = label::label_len(s, begin);
@@ -108,7 +108,7 @@ pub fn label_of(s: &[u8], v: View, task: usize) -> Part
 
 // Where the label of a task stands, without its spaces: nowhere, at the start, for a request that is refused in reading and for a task not below n.
 pub fn label_part(s: &[u8], task: usize) -> Part
-    ensures { meant-part result ≡ label-lookup s.now task }
+    ensures { meant_part result ≡ label_lookup s.now task }
 {
     let answer = reader::read_request(s);
     let Reading::Good(v) = answer else {

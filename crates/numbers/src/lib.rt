@@ -1,6 +1,6 @@
 // The larger, the lower and other small functions of numbers, which keep branches out of loops.
 ghost use Rattle.std.specs.Prelude.{◌≡◌, cond, ◌-◌, max, min};
-ghost use Rattle.rules.specs.Method.{or-one};
+ghost use Rattle.rules.specs.Method.{or_one};
 
 pub fn larger(x: u64, y: u64) -> u64
     ensures { result ≡ max x y }
@@ -23,7 +23,7 @@ pub fn less(x: u64, y: u64) -> u64
 
 // "Where B, F or RB is 0, use 1."
 pub fn or_one(x: u64) -> u64
-    ensures { result ≡ or-one x }
+    ensures { result ≡ or_one x }
 {
     if x == 0 { 1 } else { x }
 }

@@ -8,9 +8,9 @@ use Rattle.parts.specs.declared.Passed.TheVariants as passed
 use Rattle.parts.specs.declared.RunPart.{RunPart}
 
 -- A part of the request that has a value: the place past it and the value, or the refusal.
-abbrev pub meant-part : {A : Type 0} → Passed → A → Read A
-meant-part (passed.To next) a = read next.at a
-meant-part (passed.Refused number place) a = stopped number place
+abbrev pub meant_part : {A : Type 0} → Passed → A → Read A
+meant_part (passed.To next) a = read next.at a
+meant_part (passed.Refused number place) a = stopped number place
 
 -- The records of one kind that were read, and how many; or the refusal, and none.
 abbrev pub run_of : Read ℕ → RunPart

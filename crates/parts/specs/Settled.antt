@@ -5,24 +5,24 @@ use Rattle.rules.specs.Records.{Read, read, stopped}
 use Rattle.parts.specs.declared.Passed.{Passed}
 use Rattle.parts.specs.declared.Passed.TheVariants.{To, Refused}
 use Rattle.parts.specs.declared.RunPart.{RunPart}
-use Rattle.parts.specs.Meaning.{meant-part, run_of}
+use Rattle.parts.specs.Meaning.{meant_part, run_of}
 
 -- The answer that means this.
-passed-for : {A : Type 0} → Read A → Passed
-passed-for (read next a) = To (record { at = next })
-passed-for (stopped number place) = Refused number place
+passed_for : {A : Type 0} → Read A → Passed
+passed_for (read next a) = To (record { at = next })
+passed_for (stopped number place) = Refused number place
 
-passed-again : {A : Type 0} (p : Passed) (a : A) → passed-for (meant-part p a) ≡ p
-unfolding passed-for
-passed-again (To next) a = refl
-passed-again (Refused number place) a = refl
+passed_again : {A : Type 0} (p : Passed) (a : A) → passed_for (meant_part p a) ≡ p
+unfolding passed_for
+passed_again (To next) a = refl
+passed_again (Refused number place) a = refl
 
-pub passed-settled : {A : Type 0} (a : A) (p q : Passed) → meant-part p a ≡ meant-part q a → p ≡ q
-passed-settled a p q same = sym (passed-again p a) ∙ ap passed-for same ∙ passed-again q a
+pub passed_settled : {A : Type 0} (a : A) (p q : Passed) → meant_part p a ≡ meant_part q a → p ≡ q
+passed_settled a p q same = sym (passed_again p a) ∙ ap passed_for same ∙ passed_again q a
 
-run-of-means : (part : Read ℕ) → meant-part (run_of part).passed (run_of part).count ≡ part
-run-of-means (read next k) = refl
-run-of-means (stopped number place) = refl
+run_of_means : (part : Read ℕ) → meant_part (run_of part).passed (run_of part).count ≡ part
+run_of_means (read next k) = refl
+run_of_means (stopped number place) = refl
 
-pub run-means : {r : RunPart} {part : Read ℕ} → r ≡ run_of part → meant-part r.passed r.count ≡ part
-run-means {r} {part} is = ap (λ r. meant-part r.passed r.count) is ∙ run-of-means part
+pub run_means : {r : RunPart} {part : Read ℕ} → r ≡ run_of part → meant_part r.passed r.count ≡ part
+run_means {r} {part} is = ap (λ r. meant_part r.passed r.count) is ∙ run_of_means part

@@ -1,8 +1,8 @@
 // Reads the parts of a request that hold several records: each record in order, a refusal handed straight up.
 ghost use Rattle.std.specs.Prelude.{◌≡◌};
-ghost use Rattle.rules.specs.Records.{minutes-at};
-ghost use Rattle.rules.specs.Reading.{each, prices-part, windows-part, task-part, tasks-part, edges-part};
-ghost use Rattle.parts.specs.Meaning.{meant-part, run_of, past};
+ghost use Rattle.rules.specs.Records.{minutes_at};
+ghost use Rattle.rules.specs.Reading.{each, prices_part, windows_part, task_part, tasks_part, edges_part};
+ghost use Rattle.parts.specs.Meaning.{meant_part, run_of, past};
 
 use records::{Cursor, RecordAnswer};
 
@@ -25,7 +25,7 @@ pub fn handed_up(answer: RecordAnswer) -> Passed
 
 // The records of processors 0 to m - 1, each a `P` or a `Q`.
 pub fn read_prices(s: &[u8], c: Cursor, m: usize) -> Passed
-    ensures { meant-part result tt ≡ prices-part s.now m c.at }
+    ensures { meant_part result tt ≡ prices_part s.now m c.at }
 {
     let mut next = c;
     let mut j = 0;
@@ -40,8 +40,8 @@ pub fn read_prices(s: &[u8], c: Cursor, m: usize) -> Passed
     Passed::To(next)
 }
 
-// Records of one kind, as many as stand there: how many. One more than the limit is refused, so that no more are looked for (`windows-enough` and
-// `edges-enough`, crate `good`).
+// Records of one kind, as many as stand there: how many. One more than the limit is refused, so that no more are looked for (`windows_enough` and
+// `edges_enough`, crate `good`).
 #[derive(Drop)]
 pub struct RunPart {
     pub passed: Passed,
@@ -50,7 +50,7 @@ pub struct RunPart {
 
 // Windows, each after those before it.
 pub fn read_windows(s: &[u8], c: Cursor, m: usize) -> RunPart
-    ensures { result ≡ run_of (windows-part s.now m c.at) }
+    ensures { result ≡ run_of (windows_part s.now m c.at) }
 {
     let mut next = c;
     let mut k = 0;
@@ -79,7 +79,7 @@ pub fn read_windows(s: &[u8], c: Cursor, m: usize) -> RunPart
 
 // The minutes of a task on processors 0 to m - 1.
 pub fn read_row(s: &[u8], c: Cursor, task: usize, m: usize) -> Passed
-    ensures { meant-part result tt ≡ each (λ at j. minutes-at s.now at task j) c.at m }
+    ensures { meant_part result tt ≡ each (λ at j. minutes_at s.now at task j) c.at m }
 {
     let mut next = c;
     let mut j = 0;
@@ -96,7 +96,7 @@ pub fn read_row(s: &[u8], c: Cursor, task: usize, m: usize) -> Passed
 
 // A task: its `T`, then its minutes.
 pub fn read_task(s: &[u8], c: Cursor, task: usize, m: usize) -> Passed
-    ensures { meant-part result tt ≡ task-part s.now m c.at task }
+    ensures { meant_part result tt ≡ task_part s.now m c.at task }
 {
     let answer = records::read_task(s, c, task);
     let RecordAnswer::Read(after, _) = answer else {
@@ -107,7 +107,7 @@ pub fn read_task(s: &[u8], c: Cursor, task: usize, m: usize) -> Passed
 
 // Tasks 0 to n - 1.
 pub fn read_tasks(s: &[u8], c: Cursor, n: usize, m: usize) -> Passed
-    ensures { meant-part result tt ≡ tasks-part s.now n m c.at }
+    ensures { meant_part result tt ≡ tasks_part s.now n m c.at }
 {
     let mut next = c;
     let mut i = 0;
@@ -124,7 +124,7 @@ pub fn read_tasks(s: &[u8], c: Cursor, n: usize, m: usize) -> Passed
 
 // Edges, each after those before it.
 pub fn read_edges(s: &[u8], c: Cursor, n: usize) -> RunPart
-    ensures { result ≡ run_of (edges-part s.now n c.at) }
+    ensures { result ≡ run_of (edges_part s.now n c.at) }
 {
     let mut next = c;
     let mut k = 0;

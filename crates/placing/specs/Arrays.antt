@@ -4,43 +4,43 @@ use Rattle.std.proofs.Math.Path.{sym}
 use Rattle.std.proofs.Common.{◌∙◌, arith}
 use Rattle.std.proofs.Math.ListN.{length-set}
 use Rattle.rules.specs.Rows.{Row, Placed, row_of}
-use Rattle.laws.specs.Tests.{cond-mapped}
-use Rattle.laws.specs.Stores.{stored-holds, repeated}
+use Rattle.laws.specs.Tests.{cond_mapped}
+use Rattle.laws.specs.Stores.{stored_holds, repeated}
 use Rattle.placing.specs.Placed.{Column, Columns}
 
 -- At first no task has a row.
-column-first : (field : Row → ℕ) → ((i : ℕ) → field (row_of [] i) ≡ 0) → Column field [] (replicate 64 0)
-column-first field none = record { size = refl; holds = λ i. repeated 64 0 i ∙ sym (none i) }
+column_first : (field : Row → ℕ) → ((i : ℕ) → field (row_of [] i) ≡ 0) → Column field [] (replicate 64 0)
+column_first field none = record { size = refl; holds = λ i. repeated 64 0 i ∙ sym (none i) }
 
-pub columns-first : Columns [] (replicate 64 0) (replicate 64 0) (replicate 64 0) (replicate 64 0)
+pub columns_first : Columns [] (replicate 64 0) (replicate 64 0) (replicate 64 0) (replicate 64 0)
 unfolding row_of
-columns-first =
+columns_first =
     record {
-      processors-hold = column-first (λ r. r.processor) (λ i. refl);
-      starts-hold = column-first (λ r. r.start) (λ i. refl);
-      finishes-hold = column-first (λ r. r.finish) (λ i. refl);
-      costs-hold = column-first (λ r. r.cost) (λ i. refl);
+      processors_hold = column_first (λ r. r.processor) (λ i. refl);
+      starts_hold = column_first (λ r. r.start) (λ i. refl);
+      finishes_hold = column_first (λ r. r.finish) (λ i. refl);
+      costs_hold = column_first (λ r. r.cost) (λ i. refl);
     }
 
 module _ (p : Placed) (rows : List Placed) where
-  column-more : (field : Row → ℕ) {xs : List ℕ} → Column field rows xs → p.task < 64 → Column field (p ∷ rows) (set xs p.task (field p.row))
+  column_more : (field : Row → ℕ) {xs : List ℕ} → Column field rows xs → p.task < 64 → Column field (p ∷ rows) (set xs p.task (field p.row))
   unfolding row_of
-  column-more field {xs} held l =
+  column_more field {xs} held l =
       record {
         size = length-set xs p.task (field p.row) ∙ held.size;
         holds =
-            stored-holds xs _ _ p.task (field p.row) 0 (omega (arith, held.size)) held.holds
-            (λ i. sym (cond-mapped field (eqb p.task i) p.row (row_of rows i)));
+            stored_holds xs _ _ p.task (field p.row) 0 (omega (arith, held.size)) held.holds
+            (λ i. sym (cond_mapped field (eqb p.task i) p.row (row_of rows i)));
       }
 
-  pub columns-more :
+  pub columns_more :
       {sits starts ends costs : List ℕ} → Columns rows sits starts ends costs → p.task < 64
       → Columns (p ∷ rows) (set sits p.task p.row.processor) (set starts p.task p.row.start) (set ends p.task p.row.finish)
       (set costs p.task p.row.cost)
-  columns-more held l =
+  columns_more held l =
       record {
-        processors-hold = column-more (λ r. r.processor) held.processors-hold l;
-        starts-hold = column-more (λ r. r.start) held.starts-hold l;
-        finishes-hold = column-more (λ r. r.finish) held.finishes-hold l;
-        costs-hold = column-more (λ r. r.cost) held.costs-hold l;
+        processors_hold = column_more (λ r. r.processor) held.processors_hold l;
+        starts_hold = column_more (λ r. r.start) held.starts_hold l;
+        finishes_hold = column_more (λ r. r.finish) held.finishes_hold l;
+        costs_hold = column_more (λ r. r.cost) held.costs_hold l;
       }

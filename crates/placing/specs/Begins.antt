@@ -4,69 +4,69 @@ use Prim.Native.Nat.{ℕ, zero, suc, ◌-◌, ◌≤◌}
 use Rattle.std.proofs.Math.Path.{◌≡◌, refl, sym, ap, subst}
 use Rattle.std.proofs.Common.{◌∙◌, arith}
 use Rattle.std.specs.Prelude.{Bool, List, set}
-use Rattle.rules.specs.Reading.{Deadline, no-deadline}
+use Rattle.rules.specs.Reading.{Deadline, no_deadline}
 use Rattle.rules.specs.Workflow.{Workflow}
-use Rattle.rules.specs.Rows.{spent, length-of}
+use Rattle.rules.specs.Rows.{spent, length_of}
 use Rattle.rules.specs.Method.{Name}
-use Rattle.rules.specs.Budget.{in-force}
+use Rattle.rules.specs.Budget.{in_force}
 use Rattle.good.specs.Ranges.{InRange}
-use Rattle.laws.specs.Bounds.{first-most, budget-most}
-use Rattle.laws.specs.Begun.{begun, R-begun, place-begun}
-use Rattle.laws.specs.Method.{method-chooses-among}
+use Rattle.laws.specs.Bounds.{first_most, budget_most}
+use Rattle.laws.specs.Begun.{begun, R_begun, place_begun}
+use Rattle.laws.specs.Method.{method_chooses_among}
 use Rattle.busy.specs.declared.Processors.{Processors}
 use Rattle.busy.specs.Kept.{kept_by, InOrder, EndBy, Keeps}
-use Rattle.busy.specs.KeptLaws.{kept-below, kept-has-minutes}
+use Rattle.busy.specs.KeptLaws.{kept_below, kept_has_minutes}
 use Rattle.successors.specs.Begins.{BeginsFrom}
-use Rattle.successors.specs.Held.{waited-for, held_back, Held, counted-down, released}
+use Rattle.successors.specs.Held.{waited_for, held_back, Held, counted_down, released}
 use Rattle.placing.specs.declared.Placing.{Placing}
-use Rattle.placing.specs.Placed.{RanksOf, Columns, all-rows, PlacedAs}
+use Rattle.placing.specs.Placed.{RanksOf, Columns, all_rows, PlacedAs}
 
 -- What the placing is handed, with no deadline: it looks at none.
 abbrev pub handed : (budget : ℕ) → Processors → (clock : ℕ) → Workflow → Workflow
-handed budget p clock W = begun budget no-deadline (kept_by p) clock W
+handed budget p clock W = begun budget no_deadline (kept_by p) clock W
 
 module _ {W : Workflow} (range : InRange W) {p : Processors} where
-  pub begun-in-range :
-      {budget clock : ℕ} → budget ≤ budget-most → InOrder p.begins p.ends p.first → EndBy first-most p.begins p.ends p.first
-      → clock ≤ first-most → InRange (handed budget p clock W)
+  pub begun_in_range :
+      {budget clock : ℕ} → budget ≤ budget_most → InOrder p.begins p.ends p.first → EndBy first_most p.begins p.ends p.first
+      → clock ≤ first_most → InRange (handed budget p clock W)
   unfolding begun
-  begun-in-range budget-in order ended clock-in =
+  begun_in_range budget_in order ended clock_in =
       record {
-        tasks-in = range.tasks-in;
-        processors-in = range.processors-in;
-        budget-in = budget-in;
-        deadline-in = λ d e. let none : ◌≡◌ {A = ℕ} 0 1 = cc in absurd (omega arith);
-        edges-in = range.edges-in;
-        price-in = range.price-in;
-        minimum-in = range.minimum-in;
-        first-minutes = λ j v m. kept-has-minutes order (kept-below order m) m;
-        first-end-in = λ j v m. ended j (kept-below order m) v m;
-        clock-in = clock-in;
-        minutes-most = range.minutes-most;
-        from-below = range.from-below;
+        tasks_in = range.tasks_in;
+        processors_in = range.processors_in;
+        budget_in = budget_in;
+        deadline_in = λ d e. let none : ◌≡◌ {A = ℕ} 0 1 = cc in absurd (omega arith);
+        edges_in = range.edges_in;
+        price_in = range.price_in;
+        minimum_in = range.minimum_in;
+        first_minutes = λ j v m. kept_has_minutes order (kept_below order m) m;
+        first_end_in = λ j v m. ended j (kept_below order m) v m;
+        clock_in = clock_in;
+        minutes_most = range.minutes_most;
+        from_below = range.from_below;
         to_below = range.to_below;
         unequal = range.unequal;
-        transfer-in = range.transfer-in;
-        from-rises = range.from-rises;
-        to-rises = range.to-rises;
+        transfer_in = range.transfer_in;
+        from_rises = range.from_rises;
+        to_rises = range.to_rises;
       }
 
   -- What is kept gives the same starts as what W begins with: so the same rows, with any budget and deadline in force.
-  module _ {intervals : ℕ} (keeps : Keeps W.busy-at-first intervals p) (M : Name) (budget : ℕ) (deadline : Deadline) where
-    same_rows : all-rows M (handed budget p W.clock W) ≡ all-rows M (in-force budget deadline W)
-    unfolding begun in-force
+  module _ {intervals : ℕ} (keeps : Keeps W.busy_at_first intervals p) (M : Name) (budget : ℕ) (deadline : Deadline) where
+    same_rows : all_rows M (handed budget p W.clock W) ≡ all_rows M (in_force budget deadline W)
+    unfolding begun in_force
     same_rows =
-        place-begun (method-chooses-among M) W range.processors-in.from_low budget W.clock no-deadline deadline (kept_by p) W.busy-at-first
-        (λ j l. keeps.holds j (omega (arith, range.processors-in))) W.tasks
+        place_begun (method_chooses_among M) W range.processors_in.from_low budget W.clock no_deadline deadline (kept_by p) W.busy_at_first
+        (λ j l. keeps.holds j (omega (arith, range.processors_in))) W.tasks
 
-    pub placed-as :
+    pub placed_as :
         {sits starts ends costs : List ℕ} {r : Placing} → PlacedAs M (handed budget p W.clock W) sits starts ends costs r
-        → PlacedAs M (in-force budget deadline W) sits starts ends costs r
-    unfolding begun in-force
-    placed-as {sits} {starts} {ends} {costs} {r} placed =
+        → PlacedAs M (in_force budget deadline W) sits starts ends costs r
+    unfolding begun in_force
+    placed_as {sits} {starts} {ends} {costs} {r} placed =
         record {
-          length-is = placed.length-is ∙ ap length-of same_rows;
-          cost-is = placed.cost-is ∙ ap spent same_rows;
+          length_is = placed.length_is ∙ ap length_of same_rows;
+          cost_is = placed.cost_is ∙ ap spent same_rows;
           left_is = placed.left_is ∙ ap (λ rows. budget - spent rows) same_rows;
           columns = subst (λ rows. Columns rows sits starts ends costs) same_rows placed.columns;
         }
@@ -76,27 +76,27 @@ module _ (budget : ℕ) (p : Processors) (clock : ℕ) (W : Workflow) where
   abbrev so : Workflow
   so = handed budget p clock W
 
-  pub ranks-begun : {ranks : List ℕ} → RanksOf W ranks → RanksOf so ranks
+  pub ranks_begun : {ranks : List ℕ} → RanksOf W ranks → RanksOf so ranks
   unfolding begun
-  ranks-begun ranks-of =
-      record { are = λ i l. ranks-of.are i l ∙ ap (λ R. suc (R i)) (sym (R-begun budget no-deadline (kept_by p) clock W)) }
+  ranks_begun ranks_of =
+      record { are = λ i l. ranks_of.are i l ∙ ap (λ R. suc (R i)) (sym (R_begun budget no_deadline (kept_by p) clock W)) }
 
-  pub held-begun : {placed : ℕ → Bool} {held : List ℕ} → Held W placed held → Held so placed held
-  unfolding begun held_back waited-for
-  held-begun held = record { size = held.size; holds = held.holds }
+  pub held_begun : {placed : ℕ → Bool} {held : List ℕ} → Held W placed held → Held so placed held
+  unfolding begun held_back waited_for
+  held_begun held = record { size = held.size; holds = held.holds }
 
-  counted-down-begun : (begin : ℕ) (held : List ℕ) (k : ℕ) → counted-down so begin held k ≡ counted-down W begin held k
-  unfolding begun counted-down
-  counted-down-begun begin held zero = refl
-  counted-down-begun begin held (suc k) = rw (counted-down-begun begin held k) refl
+  counted_down_begun : (begin : ℕ) (held : List ℕ) (k : ℕ) → counted_down so begin held k ≡ counted_down W begin held k
+  unfolding begun counted_down
+  counted_down_begun begin held zero = refl
+  counted_down_begun begin held (suc k) = rw (counted_down_begun begin held k) refl
 
-  pub released-begun : (begin end task : ℕ) (held : List ℕ) → released W begin end task held ≡ released so begin end task held
+  pub released_begun : (begin end task : ℕ) (held : List ℕ) → released W begin end task held ≡ released so begin end task held
   unfolding released
-  released-begun begin end task held = sym (counted-down-begun begin (set held task 1) (end - begin))
+  released_begun begin end task held = sym (counted_down_begun begin (set held task 1) (end - begin))
 
-  pub begins-begun : {begins : List ℕ} → BeginsFrom W 0 begins → BeginsFrom so 0 begins
+  pub begins_begun : {begins : List ℕ} → BeginsFrom W 0 begins → BeginsFrom so 0 begins
   unfolding begun
-  begins-begun begins =
+  begins_begun begins =
       record {
         size = begins.size;
         past = begins.past;

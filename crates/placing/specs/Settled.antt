@@ -7,26 +7,26 @@ use Rattle.rules.specs.Method.{Name}
 use Rattle.placing.specs.declared.Placing.{Placing}
 use Rattle.placing.specs.Placed.{Column, Columns, PlacedAs}
 
-column-settled : {field : Row → ℕ} {rows : List Placed} {xs ys : List ℕ} → Column field rows xs → Column field rows ys → xs ≡ ys
-column-settled {xs = xs} {ys = ys} a b =
+column_settled : {field : Row → ℕ} {rows : List Placed} {xs ys : List ℕ} → Column field rows xs → Column field rows ys → xs ≡ ys
+column_settled {xs = xs} {ys = ys} a b =
     ext_get_or 0 xs ys (a.size ∙ sym b.size) (λ i l. a.holds i ∙ sym (b.holds i))
 
 -- Four arrays that hold the same rows are the same.
-pub columns-settled :
+pub columns_settled :
     {rows : List Placed} {p s f c p' s' f' c' : List ℕ} → Columns rows p s f c → Columns rows p' s' f' c'
     → (p ≡ p') × (s ≡ s') × (f ≡ f') × (c ≡ c')
-columns-settled one other = (
-  column-settled one.processors-hold other.processors-hold,
-  column-settled one.starts-hold other.starts-hold,
-  column-settled one.finishes-hold other.finishes-hold,
-  column-settled one.costs-hold other.costs-hold,
+columns_settled one other = (
+  column_settled one.processors_hold other.processors_hold,
+  column_settled one.starts_hold other.starts_hold,
+  column_settled one.finishes_hold other.finishes_hold,
+  column_settled one.costs_hold other.costs_hold,
 )
 
-pub placing-settled :
+pub placing_settled :
     (M : Name) (W : Workflow) {p s f c p' s' f' c' : List ℕ} (a b : Placing) → PlacedAs M W p s f c a → PlacedAs M W p' s' f' c' b
     → (a ≡ b) × ((p ≡ p') × (s ≡ s') × (f ≡ f') × (c ≡ c'))
-placing-settled M W a b one other =
-    let lengths = one.length-is ∙ sym other.length-is in
-    let spent = one.cost-is ∙ sym other.cost-is in
+placing_settled M W a b one other =
+    let lengths = one.length_is ∙ sym other.length_is in
+    let spent = one.cost_is ∙ sym other.cost_is in
     let left = one.left_is ∙ sym other.left_is in
-    (λ t. record { length = lengths t; cost = spent t; left = left t }, columns-settled one.columns other.columns)
+    (λ t. record { length = lengths t; cost = spent t; left = left t }, columns_settled one.columns other.columns)

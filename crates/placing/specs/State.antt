@@ -17,8 +17,8 @@ pub record State : Type 0 where
   pub length : ℕ
 
 -- At first: four arrays that were lent, in which no task has a row, what holds each task back, and what the processors are busy with.
-abbrev pub without-rows : (sits starts ends costs held : List ℕ) → Processors → (rb rcb : ℕ) → State
-without-rows sits starts ends costs held processors rb rcb =
+abbrev pub without_rows : (sits starts ends costs held : List ℕ) → Processors → (rb rcb : ℕ) → State
+without_rows sits starts ends costs held processors rb rcb =
     record {
       sits = sits;
       starts = starts;
@@ -33,8 +33,8 @@ without-rows sits starts ends costs held processors rb rcb =
     }
 
 -- What the code's row means.
-abbrev pub meant-row : code.Row → Row
-meant-row r = record { processor = r.processor; start = r.start; finish = r.finish; cost = r.cost }
+abbrev pub meant_row : code.Row → Row
+meant_row r = record { processor = r.processor; start = r.start; finish = r.finish; cost = r.cost }
 
 -- Task i has a row more, with this kept of what holds tasks back and of the processors, and `rcb` is still to come.
 abbrev pub with_row : State → ℕ → Row → (rcb : ℕ) → (held : List ℕ) → Processors → State

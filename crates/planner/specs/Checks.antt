@@ -5,59 +5,59 @@ use Rattle.std.proofs.lemmas.Bool.{false≢true}
 use borrow.Author.Tests.{lt-ltb, le-ltb}
 use Rattle.rules.specs.Reading.{Share}
 use Rattle.rules.specs.Workflow.{Workflow}
-use Rattle.rules.specs.Cycle.{cyclic, lowest-in-cycle}
-use Rattle.rules.specs.Ranks.{cheapest-total}
-use Rattle.rules.specs.Rows.{Placed, length-of}
-use Rattle.rules.specs.Method.{Name, by-HBCS, by-cheapest, by-HEFT}
+use Rattle.rules.specs.Cycle.{cyclic, lowest_in_cycle}
+use Rattle.rules.specs.Ranks.{cheapest_total}
+use Rattle.rules.specs.Rows.{Placed, length_of}
+use Rattle.rules.specs.Method.{Name, by_HBCS, by_cheapest, by_HEFT}
 use Rattle.rules.specs.Budget.{held_to}
-use Rattle.rules.specs.Answer.{refusal, refuse, too-late, placed-outcome, checked, later-checks, outcome-of, outcome-by}
-use Rattle.laws.specs.InForce.{tasks-held, cyclic-held, lowest-in-cycle-held}
-use Rattle.placing.specs.Placed.{all-rows}
-use Rattle.budgets.specs.Prepared.{held-to-none}
-use Rattle.planner.specs.Planned.{later-by, plan-alone}
+use Rattle.rules.specs.Answer.{refusal, refuse, too_late, placed_outcome, checked, later_checks, outcome_of, outcome_by}
+use Rattle.laws.specs.InForce.{tasks_held, cyclic_held, lowest_in_cycle_held}
+use Rattle.placing.specs.Placed.{all_rows}
+use Rattle.budgets.specs.Prepared.{held_to_none}
+use Rattle.planner.specs.Planned.{later_by, plan_alone}
 
 -- 7 and 8, by any method: what is in force changes no task and no cycle.
 module _ (M : Name) (share : Share) (W : Workflow) (lent : ℕ) where
-  pub too-few-rows : lent < W.tasks → outcome-by M (held_to M share W) lent ≡ refusal 7 W.tasks
-  unfolding outcome-by outcome-of checked refuse
-  too-few-rows few = rw (tasks-held share W M, lt-ltb lent W.tasks few)
+  pub too_few_rows : lent < W.tasks → outcome_by M (held_to M share W) lent ≡ refusal 7 W.tasks
+  unfolding outcome_by outcome_of checked refuse
+  too_few_rows few = rw (tasks_held share W M, lt-ltb lent W.tasks few)
 
   module _ (enough : W.tasks ≤ lent) where
-    enough-held : ltb lent (held_to M share W).tasks ≡ false
-    enough-held = ap (ltb lent) (tasks-held share W M) ∙ le-ltb lent W.tasks enough
+    enough_held : ltb lent (held_to M share W).tasks ≡ false
+    enough_held = ap (ltb lent) (tasks_held share W M) ∙ le-ltb lent W.tasks enough
 
-    pub with-cycle : cyclic W ≡ true → outcome-by M (held_to M share W) lent ≡ refusal 8 (lowest-in-cycle W)
-    unfolding outcome-by outcome-of checked refuse
-    with-cycle cycle = rw (enough-held, cyclic-held share W M, cycle, lowest-in-cycle-held share W M)
+    pub with_cycle : cyclic W ≡ true → outcome_by M (held_to M share W) lent ≡ refusal 8 (lowest_in_cycle W)
+    unfolding outcome_by outcome_of checked refuse
+    with_cycle cycle = rw (enough_held, cyclic_held share W M, cycle, lowest_in_cycle_held share W M)
 
-    pub without-cycle : cyclic W ≡ false → outcome-by M (held_to M share W) lent ≡ later-by M (held_to M share W)
-    unfolding outcome-by outcome-of checked refuse
-    without-cycle none = rw (enough-held, cyclic-held share W M, none)
+    pub without_cycle : cyclic W ≡ false → outcome_by M (held_to M share W) lent ≡ later_by M (held_to M share W)
+    unfolding outcome_by outcome_of checked refuse
+    without_cycle none = rw (enough_held, cyclic_held share W M, none)
 
 -- 9 and 11, by HBCS, of a workflow with what is in force.
 module _ (W : Workflow) where
-  pub too-dear : W.budget < cheapest-total W → later-by by-HBCS W ≡ refusal 9 (cheapest-total W)
-  unfolding refuse later-checks
-  too-dear above = rw (lt-ltb W.budget (cheapest-total W) above)
+  pub too_dear : W.budget < cheapest_total W → later_by by_HBCS W ≡ refusal 9 (cheapest_total W)
+  unfolding refuse later_checks
+  too_dear above = rw (lt-ltb W.budget (cheapest_total W) above)
 
-  pub within-budget : cheapest-total W ≤ W.budget → later-by by-HBCS W ≡ placed-outcome W (all-rows by-HBCS W)
-  unfolding refuse later-checks
-  within-budget within = rw (le-ltb W.budget (cheapest-total W) within)
+  pub within_budget : cheapest_total W ≤ W.budget → later_by by_HBCS W ≡ placed_outcome W (all_rows by_HBCS W)
+  unfolding refuse later_checks
+  within_budget within = rw (le-ltb W.budget (cheapest_total W) within)
 
-  pub after-deadline :
-      (rows : List Placed) {length : ℕ} → length ≡ length-of rows → too-late W.deadline length ≡ true → placed-outcome W rows ≡ refusal 11 length
-  unfolding placed-outcome refuse
-  after-deadline rows is late = rw (← is, late)
+  pub after_deadline :
+      (rows : List Placed) {length : ℕ} → length ≡ length_of rows → too_late W.deadline length ≡ true → placed_outcome W rows ≡ refusal 11 length
+  unfolding placed_outcome refuse
+  after_deadline rows is late = rw (← is, late)
 
 -- The others have no later check; and but for them there is HBCS alone.
-pub alone-later : (M : Name) (share : Share) (W : Workflow) → held-to-none M ≡ true → later-by M (held_to M share W) ≡ plan-alone M W
-unfolding held-to-none later-checks plan-alone held_to
-alone-later by-HBCS share W e = absurd (false≢true e)
-alone-later by-cheapest share W e = refl
-alone-later by-HEFT share W e = refl
+pub alone_later : (M : Name) (share : Share) (W : Workflow) → held_to_none M ≡ true → later_by M (held_to M share W) ≡ plan_alone M W
+unfolding held_to_none later_checks plan_alone held_to
+alone_later by_HBCS share W e = absurd (false≢true e)
+alone_later by_cheapest share W e = refl
+alone_later by_HEFT share W e = refl
 
-pub within-else : (M : Name) (share : Share) (W : Workflow) → held-to-none M ≡ false → later-by M (held_to M share W) ≡ later-by by-HBCS (held_to by-HBCS share W)
-unfolding held-to-none
-within-else by-HBCS share W e = refl
-within-else by-cheapest share W e = absurd (false≢true (sym e))
-within-else by-HEFT share W e = absurd (false≢true (sym e))
+pub within_else : (M : Name) (share : Share) (W : Workflow) → held_to_none M ≡ false → later_by M (held_to M share W) ≡ later_by by_HBCS (held_to by_HBCS share W)
+unfolding held_to_none
+within_else by_HBCS share W e = refl
+within_else by_cheapest share W e = absurd (false≢true (sym e))
+within_else by_HEFT share W e = absurd (false≢true (sym e))

@@ -3,71 +3,71 @@
 use Rattle.std.specs.Prelude.{ℕ, ◌≤◌, min, ◌≡◌, refl, Bool, true, false, List, ltb}
 use Rattle.std.proofs.Common.{ap, ◌∙◌, arith, ltb-false}
 use Rattle.rules.specs.Records.{Read, read, stopped}
-use Rattle.rules.specs.Reading.{Request, read-request}
+use Rattle.rules.specs.Reading.{Request, read_request}
 use Rattle.rules.specs.Workflow.{Workflow, workflow}
-use Rattle.rules.specs.Cycle.{cyclic, lowest-in-cycle}
-use Rattle.rules.specs.Ranks.{cheapest-total}
-use Rattle.rules.specs.Rows.{Placed, length-of}
-use Rattle.rules.specs.Method.{Name, by-HBCS, by-cheapest, by-HEFT, method}
+use Rattle.rules.specs.Cycle.{cyclic, lowest_in_cycle}
+use Rattle.rules.specs.Ranks.{cheapest_total}
+use Rattle.rules.specs.Rows.{Placed, length_of}
+use Rattle.rules.specs.Method.{Name, by_HBCS, by_cheapest, by_HEFT, method}
 use Rattle.rules.specs.Placing.{place}
 use Rattle.rules.specs.Answer as rules
-use Rattle.rules.specs.Budget.{workflow-for}
-use Rattle.rules.specs.Answer.{Outcome, plan, refuse, too-late, placed-outcome, checked, later-checks, outcome-of, outcome-by, outcome-read, outcome-asked}
-use Rattle.rules.specs.Answer.{answer-of}
-use Rattle.laws.specs.InForce.{tasks-held}
-use Rattle.good.specs.ReadIsGood.{read-is-good}
+use Rattle.rules.specs.Budget.{workflow_for}
+use Rattle.rules.specs.Answer.{Outcome, plan, refuse, too_late, placed_outcome, checked, later_checks, outcome_of, outcome_by, outcome_read, outcome_asked}
+use Rattle.rules.specs.Answer.{answer_of}
+use Rattle.laws.specs.InForce.{tasks_held}
+use Rattle.good.specs.ReadIsGood.{read_is_good}
 use Rattle.planner.specs.declared.Answer.{Answer}
 use Rattle.planner.specs.declared.Answer.TheVariants as answer
-use Rattle.planner.specs.Planned.{meant-answer, rows_told}
+use Rattle.planner.specs.Planned.{meant_answer, rows_told}
 
 -- How many rows come with an answer of the rules.
-unfoldable pub rows-due : rules.Answer → ℕ
-rows-due (rules.planned n length cost left) = n
-rows-due (rules.refused number place) = 0
+unfoldable pub rows_due : rules.Answer → ℕ
+rows_due (rules.planned n length cost left) = n
+rows_due (rules.refused number place) = 0
 
-rows-told-due : (a : Answer) → rows_told a ≡ rows-due (meant-answer a)
-unfolding rows_told rows-due meant-answer
-rows-told-due (answer.Planned n length cost left) = refl
-rows-told-due (answer.Refused number place) = refl
+rows_told_due : (a : Answer) → rows_told a ≡ rows_due (meant_answer a)
+unfolding rows_told rows_due meant_answer
+rows_told_due (answer.Planned n length cost left) = refl
+rows_told_due (answer.Refused number place) = refl
 
 -- A check that refuses gives no row.
-refused-or : (t : Bool) (number place most : ℕ) (later : Outcome) → (t ≡ false → rows-due (answer-of later) ≤ most)
-    → rows-due (answer-of (refuse t number place later)) ≤ most
-unfolding refuse answer-of rows-due
-refused-or true number place most later within = omega arith
-refused-or false number place most later within = within refl
+refused_or : (t : Bool) (number place most : ℕ) (later : Outcome) → (t ≡ false → rows_due (answer_of later) ≤ most)
+    → rows_due (answer_of (refuse t number place later)) ≤ most
+unfolding refuse answer_of rows_due
+refused_or true number place most later within = omega arith
+refused_or false number place most later within = within refl
 
-placed-within : (W : Workflow) (rows : List Placed) → rows-due (answer-of (placed-outcome W rows)) ≤ W.tasks
-unfolding placed-outcome answer-of rows-due
-placed-within W rows =
-    refused-or (too-late W.deadline (length-of rows)) 11 (length-of rows) W.tasks (plan W rows) (λ in-time. omega arith)
+placed_within : (W : Workflow) (rows : List Placed) → rows_due (answer_of (placed_outcome W rows)) ≤ W.tasks
+unfolding placed_outcome answer_of rows_due
+placed_within W rows =
+    refused_or (too_late W.deadline (length_of rows)) 11 (length_of rows) W.tasks (plan W rows) (λ in_time. omega arith)
 
-later-within : (M : Name) (W : Workflow) (rows : List Placed) → rows-due (answer-of (later-checks M W rows)) ≤ W.tasks
-unfolding later-checks answer-of rows-due
-later-within by-HBCS W rows =
-    refused-or (ltb W.budget (cheapest-total W)) 9 (cheapest-total W) W.tasks _ (λ within. placed-within W rows)
-later-within by-cheapest W rows = omega arith
-later-within by-HEFT W rows = omega arith
+later_within : (M : Name) (W : Workflow) (rows : List Placed) → rows_due (answer_of (later_checks M W rows)) ≤ W.tasks
+unfolding later_checks answer_of rows_due
+later_within by_HBCS W rows =
+    refused_or (ltb W.budget (cheapest_total W)) 9 (cheapest_total W) W.tasks _ (λ within. placed_within W rows)
+later_within by_cheapest W rows = omega arith
+later_within by_HEFT W rows = omega arith
 
-pub outcome-by-within : (M : Name) (W : Workflow) (lent : ℕ) → rows-due (answer-of (outcome-by M W lent)) ≤ min lent W.tasks
-unfolding outcome-by outcome-of checked
-outcome-by-within M W lent =
-    refused-or (ltb lent W.tasks) 7 W.tasks (min lent W.tasks) _
+pub outcome_by_within : (M : Name) (W : Workflow) (lent : ℕ) → rows_due (answer_of (outcome_by M W lent)) ≤ min lent W.tasks
+unfolding outcome_by outcome_of checked
+outcome_by_within M W lent =
+    refused_or (ltb lent W.tasks) 7 W.tasks (min lent W.tasks) _
     (λ enough.
-    refused-or (cyclic W) 8 (lowest-in-cycle W) (min lent W.tasks) _
-    (λ no-cycle. omega (arith, later-within M W (place (method M) W W.tasks), ltb-false lent W.tasks enough)))
+    refused_or (cyclic W) 8 (lowest_in_cycle W) (min lent W.tasks) _
+    (λ no_cycle. omega (arith, later_within M W (place (method M) W W.tasks), ltb-false lent W.tasks enough)))
 
-outcome-within-reach : (M : Name) (s : List ℕ) (lent : ℕ) → rows-due (answer-of (outcome-asked M s lent)) ≤ min lent 64
-unfolding outcome-asked outcome-read answer-of rows-due workflow
-outcome-within-reach M s lent = go (read-request s) refl
+outcome_within_reach : (M : Name) (s : List ℕ) (lent : ℕ) → rows_due (answer_of (outcome_asked M s lent)) ≤ min lent 64
+unfolding outcome_asked outcome_read answer_of rows_due workflow
+outcome_within_reach M s lent = go (read_request s) refl
   where
-    go : (answer : Read Request) → read-request s ≡ answer → rows-due (answer-of (outcome-read M s answer lent)) ≤ min lent 64
+    go : (answer : Read Request) → read_request s ≡ answer → rows_due (answer_of (outcome_read M s answer lent)) ≤ min lent 64
     go (read next r) e =
-        omega (arith, outcome-by-within M (workflow-for M s r) lent, tasks-held r.share (workflow s r) M, (read-is-good s e).tasks-in.to_high)
+        omega (arith, outcome_by_within M (workflow_for M s r) lent, tasks_held r.share (workflow s r) M, (read_is_good s e).tasks_in.to_high)
     go (stopped number place) e = omega arith
 
-pub told-due : (o : Outcome) (a : Answer) → meant-answer a ≡ answer-of o → rows_told a ≡ rows-due (answer-of o)
-told-due o a is = rows-told-due a ∙ ap rows-due is
+pub told_due : (o : Outcome) (a : Answer) → meant_answer a ≡ answer_of o → rows_told a ≡ rows_due (answer_of o)
+told_due o a is = rows_told_due a ∙ ap rows_due is
 
-pub rows-in-reach : (M : Name) (s : List ℕ) (lent : ℕ) (a : Answer) → meant-answer a ≡ answer-of (outcome-asked M s lent) → rows_told a ≤ min lent 64
-rows-in-reach M s lent a is = rw (told-due (outcome-asked M s lent) a is) (outcome-within-reach M s lent)
+pub rows_in_reach : (M : Name) (s : List ℕ) (lent : ℕ) (a : Answer) → meant_answer a ≡ answer_of (outcome_asked M s lent) → rows_told a ≤ min lent 64
+rows_in_reach M s lent a is = rw (told_due (outcome_asked M s lent) a is) (outcome_within_reach M s lent)

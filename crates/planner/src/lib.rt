@@ -1,15 +1,15 @@
 // The plan of a good request by the method that is asked for: the answer, and its rows in four arrays.
 ghost use Rattle.std.specs.Prelude.{◌≡◌, false, []};
 ghost use Rattle.rules.specs.Cycle.{cyclic};
-ghost use Rattle.rules.specs.Method.{by-HBCS};
-ghost use Rattle.rules.specs.Answer.{outcome-by};
-ghost use Rattle.choosing.specs.Named.{meant-method};
+ghost use Rattle.rules.specs.Method.{by_HBCS};
+ghost use Rattle.rules.specs.Answer.{outcome_by};
+ghost use Rattle.choosing.specs.Named.{meant_method};
 ghost use Rattle.reader.specs.Meaning.{ViewOf};
-ghost use Rattle.lookup.specs.Lookup.{workflow-of};
+ghost use Rattle.lookup.specs.Lookup.{workflow_of};
 ghost use Rattle.successors.specs.Begins.{BeginsFrom};
 ghost use Rattle.placing.specs.Placed.{RanksOf, Columns};
 ghost use Rattle.budgets.specs.Prepared.{Prepared};
-ghost use Rattle.planner.specs.Planned.{PlanOf, planned-in, workflow-by, later-by, plan-alone, rows_told};
+ghost use Rattle.planner.specs.Planned.{PlanOf, planned_in, workflow_by, later_by, plan_alone, rows_told};
 
 use choosing::Method;
 use reader::View;
@@ -62,7 +62,7 @@ fn plan_within<'a>(
 ) -> Answer
     requires prepared { Prepared s.now v prices.now minimums.now ranks.now edges_at.now cheapest }
     requires columns { Columns [] processors.old starts.old finishes.old costs.old }
-    ensures { PlanOf (later-by by-HBCS (workflow-by by-HBCS s.now v)) (planned-in processors.new starts.new finishes.new costs.new result) }
+    ensures { PlanOf (later_by by_HBCS (workflow_by by_HBCS s.now v)) (planned_in processors.new starts.new finishes.new costs.new result) }
 {
     let in_force = budgets::budget_of(
         s, v, prices, minimums, ranks, edges_at, cheapest, processors, starts, finishes, costs,
@@ -121,7 +121,7 @@ fn plan_alone<'a>(
 ) -> Answer
     requires prepared { Prepared s.now v prices.now minimums.now ranks.now edges_at.now cheapest }
     requires columns { Columns [] processors.old starts.old finishes.old costs.old }
-    ensures { PlanOf (plan-alone (meant-method method) (workflow-of s.now v)) (planned-in processors.new starts.new finishes.new costs.new result) }
+    ensures { PlanOf (plan_alone (meant_method method) (workflow_of s.now v)) (planned_in processors.new starts.new finishes.new costs.new result) }
 {
     let q = budgets::place_all(
         s, v, method, 0, prices, minimums, ranks, edges_at, cheapest, processors, starts, finishes,
@@ -148,10 +148,10 @@ fn plan_ranked(
     costs: &mut [u64; 64],
 ) -> Answer
     requires view_of { ViewOf s.now v }
-    requires ranks_of { RanksOf (workflow-of s.now v) ranks.now }
-    requires v_value { (cyclic (workflow-of s.now v) ≡ false) × BeginsFrom (workflow-of s.now v) 0 edges_at.now }
+    requires ranks_of { RanksOf (workflow_of s.now v) ranks.now }
+    requires v_value { (cyclic (workflow_of s.now v) ≡ false) × BeginsFrom (workflow_of s.now v) 0 edges_at.now }
     requires columns { Columns [] processors.old starts.old finishes.old costs.old }
-    ensures { PlanOf (later-by (meant-method method) (workflow-by (meant-method method) s.now v)) (planned-in processors.new starts.new finishes.new costs.new result) }
+    ensures { PlanOf (later_by (meant_method method) (workflow_by (meant_method method) s.now v)) (planned_in processors.new starts.new finishes.new costs.new result) }
 {
     let charges = charges::charges_of(s, v);
     let cheapest = costs::cheapest_total(s, v, &charges.prices, &charges.minimums);
@@ -200,7 +200,7 @@ pub fn plan_good(
 ) -> Answer
     requires view_of { ViewOf s.now v }
     requires columns { Columns [] processors.old starts.old finishes.old costs.old }
-    ensures { PlanOf (outcome-by (meant-method method) (workflow-by (meant-method method) s.now v) lent) (planned-in processors.new starts.new finishes.new costs.new result) }
+    ensures { PlanOf (outcome_by (meant_method method) (workflow_by (meant_method method) s.now v) lent) (planned_in processors.new starts.new finishes.new costs.new result) }
 {
     if lent < v.tasks {
         return Answer::Refused {

@@ -6,7 +6,7 @@ use Rattle.std.proofs.Math.Nat.{pow-le-pow_right}
 use Rattle.std.proofs.Math.ListN.{get_or-append}
 use Rattle.std.proofs.Math.Seq.{get_or-append_seam}
 use Rattle.rules.specs.Text.{decimal}
-use Rattle.decimals.specs.Decimals.{decimal_digit, decimal-longer, decimal-length}
+use Rattle.decimals.specs.Decimals.{decimal_digit, decimal_longer, decimal_length}
 
 -- By its first k bytes, each of which counts what it is above `0`.
 unfoldable pub spelled : ℕ → List ℕ → ℕ
@@ -18,16 +18,16 @@ unfoldable pub number_of : List ℕ → ℕ
 number_of s = spelled (min (length s) 17) s
 
 -- Bytes after those that are read change nothing.
-spelled-front : (k : ℕ) (s t : List ℕ) → k ≤ length s → spelled k (s ++ t) ≡ spelled k s
+spelled_front : (k : ℕ) (s t : List ℕ) → k ≤ length s → spelled k (s ++ t) ≡ spelled k s
 unfolding spelled
-spelled-front zero s t l = refl
-spelled-front (suc k) s t l = rw (spelled-front k s t (omega arith), get_or-append s t 0 k l)
+spelled_front zero s t l = refl
+spelled_front (suc k) s t l = rw (spelled_front k s t (omega arith), get_or-append s t 0 k l)
 
 -- The digits of a number spell it.
-spelled-decimal : (k x : ℕ) → x < 10 ^ suc k → spelled (length (decimal x)) (decimal x) ≡ x
+spelled_decimal : (k x : ℕ) → x < 10 ^ suc k → spelled (length (decimal x)) (decimal x) ≡ x
 unfolding spelled
-spelled-decimal zero x l = rw (decimal_digit x (omega arith)) (omega arith)
-spelled-decimal (suc k) x l = go (dec_lt x 10) (spelled-decimal k (x / 10))
+spelled_decimal zero x l = rw (decimal_digit x (omega arith)) (omega arith)
+spelled_decimal (suc k) x l = go (dec_lt x 10) (spelled_decimal k (x / 10))
   where
     go : Dec (x < 10) → (x / 10 < 10 ^ suc k → spelled (length (decimal (x / 10))) (decimal (x / 10)) ≡ x / 10)
         → spelled (length (decimal x)) (decimal x) ≡ x
@@ -35,29 +35,29 @@ spelled-decimal (suc k) x l = go (dec_lt x 10) (spelled-decimal k (x / 10))
     go (no many) tenth =
         let front = decimal (x / 10) in
         rw (
-          decimal-longer x (omega arith),
+          decimal_longer x (omega arith),
           length-append front _,
           add-one (length front),
-          spelled-front (length front) front _ (omega arith),
+          spelled_front (length front) front _ (omega arith),
           tenth (omega (arith, pow-suc 10 (suc k))),
           get_or-append_seam front _ [] 0,
         )
         (omega arith)
 
 -- So 17 digits or fewer, as they are printed, are read as their number.
-pub number-of-decimal : (x : ℕ) → x < 10 ^ 17 → number_of (decimal x) ≡ x
+pub number_of_decimal : (x : ℕ) → x < 10 ^ 17 → number_of (decimal x) ≡ x
 unfolding number_of
-number-of-decimal x l =
-    let all : min (length (decimal x)) 17 ≡ length (decimal x) = omega (arith, decimal-length 16 x l) in
-    rw all (spelled-decimal 16 x l)
+number_of_decimal x l =
+    let all : min (length (decimal x)) 17 ≡ length (decimal x) = omega (arith, decimal_length 16 x l) in
+    rw all (spelled_decimal 16 x l)
 
 -- A bound that each byte keeps, whatever it is: so 17 of them spell less than 64 bits hold.
 abbrev pub Small : (k x : ℕ) → Type 0
 Small k x = x + 23 ≤ 23 * 10 ^ k
 
 module _ (k x d : ℕ) (small : Small k x) (digit : d ≤ 207) where
-  pub small-next : Small (k + 1) (x * 10 + d)
-  small-next = rw (add-one k, pow-suc 10 k) (omega arith)
+  pub small_next : Small (k + 1) (x * 10 + d)
+  small_next = rw (add-one k, pow-suc 10 k) (omega arith)
 
-  pub small-fits : k < 17 → x * 10 + d < 2 ^ 64
-  small-fits l = omega (arith, pow-le-pow_right {n = 10} (omega arith) {i = k} {j = 16} (omega arith))
+  pub small_fits : k < 17 → x * 10 + d < 2 ^ 64
+  small_fits l = omega (arith, pow-le-pow_right {n = 10} (omega arith) {i = k} {j = 16} (omega arith))

@@ -1,10 +1,10 @@
 // What the programs write: a text in a lent buffer, and how many bytes of it.
 ghost use Rattle.std.specs.Prelude.{◌≡◌, ◌-◌, ◌≤◌};
 ghost use Rattle.io.specs.Counts.{IsPrefixLen};
-ghost use Rattle.rules.specs.Text.{text-asked};
-ghost use Rattle.rules.specs.Range.{range-text};
-ghost use Rattle.rules.specs.Why.{why-not, why-text};
-ghost use Rattle.choosing.specs.Named.{meant-method};
+ghost use Rattle.rules.specs.Text.{text_asked};
+ghost use Rattle.rules.specs.Range.{range_text};
+ghost use Rattle.rules.specs.Why.{why_not, why_text};
+ghost use Rattle.choosing.specs.Named.{meant_method};
 ghost use Rattle.programs.specs.Spelled.{number_of};
 ghost use Rattle.programs.specs.Told.{to_write, TextIn};
 
@@ -23,7 +23,7 @@ fn bytes_of(printed: Printed) -> usize
 
 // The plan of a request by a method, or the refusal. The largest text has 2,145 bytes.
 pub fn plan_text(request: &[u8], method: Method, out: &mut [u8]) -> usize
-    ensures { IsPrefixLen result out.new × TextIn (text-asked (meant-method method) request.now) out.old out.new result }
+    ensures { IsPrefixLen result out.new × TextIn (text_asked (meant_method method) request.now) out.old out.new result }
 {
     let printed = text::print(request, method, out);
     bytes_of(printed)
@@ -31,7 +31,7 @@ pub fn plan_text(request: &[u8], method: Method, out: &mut [u8]) -> usize
 
 // The range of a request, or the refusal. The longest line has 24 bytes.
 pub fn range_text(request: &[u8], out: &mut [u8]) -> usize
-    ensures { IsPrefixLen result out.new × TextIn (range-text request.now) out.old out.new result }
+    ensures { IsPrefixLen result out.new × TextIn (range_text request.now) out.old out.new result }
 {
     let printed = text::print_range(request, out);
     bytes_of(printed)
@@ -60,7 +60,7 @@ pub fn number_of(digits: &[u8]) -> u64
 
 // Why a task of a request does not start at a minute, both as an argument spells them. The longest text has 180 bytes.
 pub fn why_text(request: &[u8], task: &[u8], start: &[u8], out: &mut [u8]) -> usize
-    ensures { IsPrefixLen result out.new × TextIn (why-text (why-not request.now (number_of task.now) (number_of start.now))) out.old out.new result }
+    ensures { IsPrefixLen result out.new × TextIn (why_text (why_not request.now (number_of task.now) (number_of start.now))) out.old out.new result }
 {
     let number = number_of(task) as usize;
     let minute = number_of(start);

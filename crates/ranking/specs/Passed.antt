@@ -5,21 +5,21 @@ use Rattle.std.proofs.Common.{sym, ap, ◌∙◌, arith, eq-eqb, ne_eqb}
 use Rattle.std.proofs.Math.Logic.{⊎_elim}
 use Rattle.rules.specs.Folds.{sum, largest}
 use Rattle.rules.specs.Workflow.{Workflow}
-use Rattle.rules.specs.Ranks.{rank-by}
+use Rattle.rules.specs.Ranks.{rank_by}
 use Rattle.good.specs.Ranges.{InRange}
 use Rattle.laws.specs.Bounds.{rank_most}
-use Rattle.laws.specs.Folds.{largest-next, largest-of-none, largest-further}
-use Rattle.laws.specs.Numbers.{below-or-on}
-use Rattle.successors.specs.Begins.{Begins, from-between}
+use Rattle.laws.specs.Folds.{largest_next, largest_of_none, largest_further}
+use Rattle.laws.specs.Numbers.{below_or_on}
+use Rattle.successors.specs.Begins.{Begins, from_between}
 use Rattle.laws.specs.Stores.{at}
-use Rattle.ranking.specs.Ranked.{rank-in, NextRank}
-use Rattle.ranking.specs.RankBounds.{over-edge, transfer-within}
+use Rattle.ranking.specs.Ranked.{rank_in, NextRank}
+use Rattle.ranking.specs.RankBounds.{over_edge, transfer_within}
 
 -- Those from `begin` to before e are passed, of those that end at `end`.
 pub record Passed (W : Workflow) (ranks : List ℕ) (task begin end e most : ℕ) : Type 0 where
-  pub from-begin : begin ≤ e
+  pub from_begin : begin ≤ e
   pub to_end : e ≤ end
-  pub largest-is : most ≡ largest e (over-edge W (rank-in ranks) task)
+  pub largest_is : most ≡ largest e (over_edge W (rank_in ranks) task)
   pub known : (k : ℕ) → begin ≤ k → k < e → 1 ≤ at ranks (W.to k)
   pub at_most : most ≤ 16_000 + rank_most
 
@@ -28,66 +28,66 @@ module _ (W : Workflow) (range : InRange W) (ranks : List ℕ) (task begin end :
   pub passed_none : Passed W ranks task begin end begin 0
   passed_none =
       record {
-        from-begin = omega arith;
+        from_begin = omega arith;
         to_end =
             ⊎_elim (λ (q : begin ≤ end). q)
             (λ (q : end + 1 ≤ begin).
             omega (arith, first.before end (omega arith), last.onward end (omega arith) (omega (arith, first.within))))
-            (below-or-on begin end);
-        largest-is =
+            (below_or_on begin end);
+        largest_is =
             sym
-            (largest-of-none begin (over-edge W (rank-in ranks) task) (λ k l. rw (ne_eqb (W.from k) task (λ q. omega (arith, first.before k l)))));
+            (largest_of_none begin (over_edge W (rank_in ranks) task) (λ k l. rw (ne_eqb (W.from k) task (λ q. omega (arith, first.before k l)))));
         known = λ k l m. absurd (omega arith);
         at_most = omega arith;
       }
 
   module _ (e : ℕ) (below : e < end) where
-    edge-below : e < W.edges
-    edge-below = omega (arith, last.within)
+    edge_below : e < W.edges
+    edge_below = omega (arith, last.within)
 
-    pub passed-more :
+    pub passed_more :
         {most onward next : ℕ} → Passed W ranks task begin end e most → onward ≡ at ranks (W.to e) → 1 ≤ onward → onward ≤ 1 + rank_most
         → next ≡ max most (W.processors * W.transfer e + (onward - 1)) → Passed W ranks task begin end (e + 1) next
-    passed-more {most} {onward} {next} so_far there known few is =
-        let from : W.from e ≡ task = from-between W range task begin end e first last so_far.from-begin below in
-        let adds : W.processors * W.transfer e + (onward - 1) ≡ over-edge W (rank-in ranks) task e =
+    passed_more {most} {onward} {next} so_far there known few is =
+        let from : W.from e ≡ task = from_between W range task begin end e first last so_far.from_begin below in
+        let adds : W.processors * W.transfer e + (onward - 1) ≡ over_edge W (rank_in ranks) task e =
         ap (λ z. W.processors * W.transfer e + (z - 1)) there ∙ rw (eq-eqb (W.from e) task from) in
         record {
-          from-begin = omega (arith, so_far.from-begin);
+          from_begin = omega (arith, so_far.from_begin);
           to_end = omega arith;
-          largest-is = largest-next e (over-edge W (rank-in ranks) task) so_far.largest-is (is ∙ ap (max most) adds);
+          largest_is = largest_next e (over_edge W (rank_in ranks) task) so_far.largest_is (is ∙ ap (max most) adds);
           known =
               λ k l m.
               ⊎_elim (λ (q : e ≤ k). let same : k ≡ e = omega arith in rw same (omega arith)) (λ (q : k + 1 ≤ e). so_far.known k l (omega arith))
-              (below-or-on e k);
-          at_most = omega (arith, so_far.at_most, transfer-within W range e);
+              (below_or_on e k);
+          at_most = omega (arith, so_far.at_most, transfer_within W range e);
         }
 
-    pub held-up-here : begin ≤ e → at ranks (W.to e) ≡ 0 → NextRank W ranks task 0
-    held-up-here l unknown =
+    pub held_up_here : begin ≤ e → at ranks (W.to e) ≡ 0 → NextRank W ranks task 0
+    held_up_here l unknown =
         record {
           due = λ known. absurd (omega arith);
-          not-due = λ none. (e, edge-below, from-between W range task begin end e first last l below, unknown);
+          not_due = λ none. (e, edge_below, from_between W range task begin end e first last l below, unknown);
         }
 
-  pub passed-all :
+  pub passed_all :
       {most r : ℕ} → Passed W ranks task begin end end most → r ≡ sum W.processors (W.minutes task) + most + 1
       → NextRank W ranks task r
-  unfolding rank-by
-  passed-all {most} {r} all is =
-      let rest : largest W.edges (over-edge W (rank-in ranks) task) ≡ largest end (over-edge W (rank-in ranks) task) =
-      largest-further end W.edges (over-edge W (rank-in ranks) task) last.within
+  unfolding rank_by
+  passed_all {most} {r} all is =
+      let rest : largest W.edges (over_edge W (rank_in ranks) task) ≡ largest end (over_edge W (rank_in ranks) task) =
+      largest_further end W.edges (over_edge W (rank_in ranks) task) last.within
       (λ k l m. rw (ne_eqb (W.from k) task (λ q. omega (arith, last.onward k l m)))) in
-      let equation : r ≡ suc (rank-by W (rank-in ranks) task) = omega (arith, is, all.largest-is, rest) in
+      let equation : r ≡ suc (rank_by W (rank_in ranks) task) = omega (arith, is, all.largest_is, rest) in
       record {
-        due = λ known. (equation, λ e b from. all.known e (not-before e from) (not_after e b from));
-        not-due = λ none. absurd (omega (arith, equation));
+        due = λ known. (equation, λ e b from. all.known e (not_before e from) (not_after e b from));
+        not_due = λ none. absurd (omega (arith, equation));
       }
     where
-      not-before : (e : ℕ) → W.from e ≡ task → begin ≤ e
-      not-before e from =
-          ⊎_elim (λ (q : begin ≤ e). q) (λ (q : e + 1 ≤ begin). omega (arith, first.before e (omega arith))) (below-or-on begin e)
+      not_before : (e : ℕ) → W.from e ≡ task → begin ≤ e
+      not_before e from =
+          ⊎_elim (λ (q : begin ≤ e). q) (λ (q : e + 1 ≤ begin). omega (arith, first.before e (omega arith))) (below_or_on begin e)
 
       not_after : (e : ℕ) → e < W.edges → W.from e ≡ task → e < end
       not_after e b from =
-          ⊎_elim (λ (q : end ≤ e). omega (arith, last.onward e q b)) (λ (q : e + 1 ≤ end). omega arith) (below-or-on end e)
+          ⊎_elim (λ (q : end ≤ e). omega (arith, last.onward e q b)) (λ (q : e + 1 ≤ end). omega arith) (below_or_on end e)

@@ -4,7 +4,7 @@ ghost use Rattle.std.specs.Prelude.{◌≡◌, ℕ, ◌+◌, ◌≤◌, ◌<◌,
 ghost use Rattle.rules.specs.Folds.{sum};
 ghost use Rattle.laws.specs.Bounds.{rank_most};
 ghost use Rattle.reader.specs.Meaning.{ViewOf};
-ghost use Rattle.lookup.specs.Lookup.{workflow-of};
+ghost use Rattle.lookup.specs.Lookup.{workflow_of};
 ghost use Rattle.laws.specs.Turned.{Turned};
 ghost use Rattle.successors.specs.Begins.{Begins, BeginsFrom};
 ghost use Rattle.ranking.specs.Ranked.{RankedSoFar, NextRank, HeldUp, AllHeldUp, RankedAs};
@@ -15,7 +15,7 @@ use reader::View;
 fn all_minutes(s: &[u8], v: View, task: usize) -> u64
     requires view_of { ViewOf s.now v }
     requires task_lt_tasks { task < v.tasks }
-    ensures { (result ≡ sum v.processors ((workflow-of s.now v).minutes task)) × (result ≤ 32_000) }
+    ensures { (result ≡ sum v.processors ((workflow_of s.now v).minutes task)) × (result ≤ 32_000) }
 {
     let mut minutes: u64 = 0;
     let mut j = 0;
@@ -30,8 +30,8 @@ fn all_minutes(s: &[u8], v: View, task: usize) -> u64
 fn rank_of(s: &[u8], v: View, ranks: &[u64; 64], task: usize, begin: usize, end: usize) -> u64
     requires view_of { ViewOf s.now v }
     requires task_lt_tasks { (task < v.tasks) × ((k : ℕ) → get_or ranks.now k 0 ≤ 1 + rank_most) }
-    requires begins { Begins (workflow-of s.now v) task begin × Begins (workflow-of s.now v) (task + 1) end }
-    ensures { NextRank (workflow-of s.now v) ranks.now task result }
+    requires begins { Begins (workflow_of s.now v) task begin × Begins (workflow_of s.now v) (task + 1) end }
+    ensures { NextRank (workflow_of s.now v) ranks.now task result }
 {
     let processors = v.processors as u64;
     let mut most: u64 = 0;
@@ -58,9 +58,9 @@ fn rank_task(
     left: usize,
 ) -> usize
     requires view_of { ViewOf s.now v }
-    requires task_lt_tasks { (task < v.tasks) × RankedSoFar (workflow-of s.now v) ranks.old left }
-    requires begins { Begins (workflow-of s.now v) task begin × Begins (workflow-of s.now v) (task + 1) end }
-    ensures { Turned (RankedSoFar (workflow-of s.now v)) (λ ranks. HeldUp (workflow-of s.now v) ranks task) ranks.entry.now ranks.exit.now left result }
+    requires task_lt_tasks { (task < v.tasks) × RankedSoFar (workflow_of s.now v) ranks.old left }
+    requires begins { Begins (workflow_of s.now v) task begin × Begins (workflow_of s.now v) (task + 1) end }
+    ensures { Turned (RankedSoFar (workflow_of s.now v)) (λ ranks. HeldUp (workflow_of s.now v) ranks task) ranks.entry.now ranks.exit.now left result }
 {
     if 0 < ranks[task] {
         return left;
@@ -76,9 +76,9 @@ fn rank_task(
 // Ranks the tasks that can be, from the highest number down. Answers how many are left.
 fn rank_pass(s: &[u8], v: View, begins: &[u16; 65], ranks: &mut [u64; 64], left: usize) -> usize
     requires view_of { ViewOf s.now v }
-    requires begins_from { BeginsFrom (workflow-of s.now v) 0 begins.now }
-    requires ranked_so_far { RankedSoFar (workflow-of s.now v) ranks.old left }
-    ensures { Turned (RankedSoFar (workflow-of s.now v)) (AllHeldUp (workflow-of s.now v) 0) ranks.old ranks.new left result }
+    requires begins_from { BeginsFrom (workflow_of s.now v) 0 begins.now }
+    requires ranked_so_far { RankedSoFar (workflow_of s.now v) ranks.old left }
+    ensures { Turned (RankedSoFar (workflow_of s.now v)) (AllHeldUp (workflow_of s.now v) 0) ranks.old ranks.new left result }
 {
     let mut now_left = left;
     let mut task = v.tasks;
@@ -95,9 +95,9 @@ fn rank_pass(s: &[u8], v: View, begins: &[u16; 65], ranks: &mut [u64; 64], left:
 // whether all are ranked, which they are without a cycle; with one the array is 0 throughout.
 pub fn rank_all(s: &[u8], v: View, begins: &[u16; 65], ranks: &mut [u64; 64]) -> bool
     requires view_of { ViewOf s.now v }
-    requires begins_from { BeginsFrom (workflow-of s.now v) 0 begins.now }
-    requires ranked_so_far { RankedSoFar (workflow-of s.now v) ranks.old v.tasks }
-    ensures { RankedAs (workflow-of s.now v) ranks.new result }
+    requires begins_from { BeginsFrom (workflow_of s.now v) 0 begins.now }
+    requires ranked_so_far { RankedSoFar (workflow_of s.now v) ranks.old v.tasks }
+    ensures { RankedAs (workflow_of s.now v) ranks.new result }
 {
     let mut left = v.tasks;
     while 0 < left {

@@ -3,7 +3,7 @@ use mathlib.Core.Path.{◌≡◌}
 use Prim.Native.Nat.{ℕ}
 use mathlib.Core.List.{List}
 use borrow.Author.Tests.{eq-eqb, ne_eqb}
-use Rattle.rules.specs.Fields.{Kind, kind-byte, byte}
+use Rattle.rules.specs.Fields.{Kind, kind_byte, byte}
 use Rattle.rules.specs.Records.{Record, Read, read}
 use Rattle.rules.specs.Reading.{then, optional}
 use Rattle.records.specs.declared.Cursor.{Cursor}
@@ -12,21 +12,21 @@ use Rattle.records.specs.declared.RecordAnswer.{RecordAnswer}
 use Rattle.records.specs.declared.RecordAnswer.TheVariants as answer
 use Rattle.records.specs.Meaning.{meant}
 use Rattle.parts.specs.declared.Passed.{Passed}
-use Rattle.parts.specs.Meaning.{meant-part, past}
+use Rattle.parts.specs.Meaning.{meant_part, past}
 
 module _ {A : Type 0} (s : List ℕ) (kind : Kind) (part : Read Record) (at : ℕ) (given without : A) where
-  pub none-there : (byte s at ≡ kind-byte kind → ⊥) → read at without ≡ optional s kind part at given without
+  pub none_there : (byte s at ≡ kind_byte kind → ⊥) → read at without ≡ optional s kind part at given without
   unfolding optional
-  none-there other = rw (ne_eqb _ _ other)
+  none_there other = rw (ne_eqb _ _ other)
 
   -- The answer of that kind's reader.
-  module _ (of-kind : byte s at ≡ kind-byte kind) (a : RecordAnswer) (answered : meant a ≡ part) where
-    pub one-refused : {p : Passed} {number place : ℕ} → a ≡ answer.Refused number place → p ≡ past a →
-        meant-part p without ≡ optional s kind part at given without
+  module _ (of_kind : byte s at ≡ kind_byte kind) (a : RecordAnswer) (answered : meant a ≡ part) where
+    pub one_refused : {p : Passed} {number place : ℕ} → a ≡ answer.Refused number place → p ≡ past a →
+        meant_part p without ≡ optional s kind part at given without
     unfolding optional then
-    one-refused is same = rw (eq-eqb _ _ of-kind, same, ← answered, is)
+    one_refused is same = rw (eq-eqb _ _ of_kind, same, ← answered, is)
 
-    pub one-read : {next : Cursor} {found : code.Record} {x : A} → a ≡ answer.Read next found → x ≡ given →
+    pub one_read : {next : Cursor} {found : code.Record} {x : A} → a ≡ answer.Read next found → x ≡ given →
         read next.at x ≡ optional s kind part at given without
     unfolding optional then
-    one-read is same = rw (eq-eqb _ _ of-kind, same, ← answered, is)
+    one_read is same = rw (eq-eqb _ _ of_kind, same, ← answered, is)

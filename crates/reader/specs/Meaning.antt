@@ -13,41 +13,41 @@ use Rattle.reader.specs.declared.View.{View}
 use Rattle.reader.specs.declared.Reading.{Reading}
 use Rattle.reader.specs.declared.Reading.TheVariants as reading
 
-abbrev pub meant-deadline : Deadline → request.Deadline
-meant-deadline deadline.Without = request.no-deadline
-meant-deadline (deadline.By minutes) = request.by minutes
+abbrev pub meant_deadline : Deadline → request.Deadline
+meant_deadline deadline.Without = request.no_deadline
+meant_deadline (deadline.By minutes) = request.by minutes
 
-abbrev pub meant-share : Share → request.Share
-meant-share share.Without = request.no-share
-meant-share (share.Of thousandths) = request.thousandths thousandths
+abbrev pub meant_share : Share → request.Share
+meant_share share.Without = request.no_share
+meant_share (share.Of thousandths) = request.thousandths thousandths
 
 -- A view holds the numbers of a good request, and where its parts begin.
-abbrev pub meant-view : View → request.Request
-meant-view v =
+abbrev pub meant_view : View → request.Request
+meant_view v =
     record {
       tasks = v.tasks;
       processors = v.processors;
       budget = v.budget;
-      deadline = meant-deadline v.deadline;
-      share = meant-share v.share;
-      prices-at = v.prices_at;
-      windows-at = v.windows_at;
+      deadline = meant_deadline v.deadline;
+      share = meant_share v.share;
+      prices_at = v.prices_at;
+      windows_at = v.windows_at;
       windows = v.windows;
-      tasks-at = v.tasks_at;
+      tasks_at = v.tasks_at;
       edges_at = v.edges_at;
       edges = v.edges;
     }
 
 -- A good request, read to the end of the input; or the refusal.
-abbrev pub meant-reading : List ℕ → Reading → rules.Read request.Request
-meant-reading s (reading.Good v) = read (length s) (meant-view v)
-meant-reading s (reading.Refused number place) = stopped number place
+abbrev pub meant_reading : List ℕ → Reading → rules.Read request.Request
+meant_reading s (reading.Good v) = read (length s) (meant_view v)
+meant_reading s (reading.Refused number place) = stopped number place
 
 -- The view is that of the good request s.
 abbrev pub ViewOf : List ℕ → View → Type 0
-ViewOf s v = request.read-request s ≡ read (length s) (meant-view v)
+ViewOf s v = request.read_request s ≡ read (length s) (meant_view v)
 
 -- A part's refusal as the request's.
-abbrev pub refusal-of : Passed → Reading
-refusal-of (passed.To next) = reading.Refused 0 next.at
-refusal-of (passed.Refused number place) = reading.Refused number place
+abbrev pub refusal_of : Passed → Reading
+refusal_of (passed.To next) = reading.Refused 0 next.at
+refusal_of (passed.Refused number place) = reading.Refused number place

@@ -9,54 +9,54 @@ use Rattle.reader.specs.declared.Share.{Share}
 use Rattle.reader.specs.declared.Share.TheVariants as share
 use Rattle.reader.specs.declared.Reading.{Reading}
 use Rattle.reader.specs.declared.Reading.TheVariants.{Good, Refused}
-use Rattle.reader.specs.Meaning.{meant-deadline, meant-share, meant-reading}
+use Rattle.reader.specs.Meaning.{meant_deadline, meant_share, meant_reading}
 
 -- The deadline, the share and the answer that mean this.
-deadline-for : rules.Deadline → Deadline
-deadline-for rules.no-deadline = deadline.Without
-deadline-for (rules.by minutes) = deadline.By minutes
+deadline_for : rules.Deadline → Deadline
+deadline_for rules.no_deadline = deadline.Without
+deadline_for (rules.by minutes) = deadline.By minutes
 
-share-for : rules.Share → Share
-share-for rules.no-share = share.Without
-share-for (rules.thousandths k) = share.Of k
+share_for : rules.Share → Share
+share_for rules.no_share = share.Without
+share_for (rules.thousandths k) = share.Of k
 
-reading-for : Read rules.Request → Reading
-reading-for (read end r) =
+reading_for : Read rules.Request → Reading
+reading_for (read end r) =
     Good
     (record {
       tasks = r.tasks;
       processors = r.processors;
       budget = r.budget;
-      deadline = deadline-for r.deadline;
-      share = share-for r.share;
-      prices_at = r.prices-at;
-      windows_at = r.windows-at;
+      deadline = deadline_for r.deadline;
+      share = share_for r.share;
+      prices_at = r.prices_at;
+      windows_at = r.windows_at;
       windows = r.windows;
-      tasks_at = r.tasks-at;
+      tasks_at = r.tasks_at;
       edges_at = r.edges-at;
       edges = r.edges;
     })
-reading-for (stopped number place) = Refused number place
+reading_for (stopped number place) = Refused number place
 
-deadline-again : (d : Deadline) → deadline-for (meant-deadline d) ≡ d
-unfolding deadline-for
-deadline-again deadline.Without = refl
-deadline-again (deadline.By minutes) = refl
+deadline_again : (d : Deadline) → deadline_for (meant_deadline d) ≡ d
+unfolding deadline_for
+deadline_again deadline.Without = refl
+deadline_again (deadline.By minutes) = refl
 
-share_again : (k : Share) → share-for (meant-share k) ≡ k
-unfolding share-for
+share_again : (k : Share) → share_for (meant_share k) ≡ k
+unfolding share_for
 share_again share.Without = refl
 share_again (share.Of k) = refl
 
-reading-again : (s : List ℕ) (a : Reading) → reading-for (meant-reading s a) ≡ a
-unfolding reading-for
-reading-again s (Good v) =
+reading_again : (s : List ℕ) (a : Reading) → reading_for (meant_reading s a) ≡ a
+unfolding reading_for
+reading_again s (Good v) =
     λ i. Good
     (record {
       tasks = v.tasks;
       processors = v.processors;
       budget = v.budget;
-      deadline = deadline-again v.deadline i;
+      deadline = deadline_again v.deadline i;
       share = share_again v.share i;
       prices_at = v.prices_at;
       windows_at = v.windows_at;
@@ -65,7 +65,7 @@ reading-again s (Good v) =
       edges_at = v.edges_at;
       edges = v.edges;
     })
-reading-again s (Refused number place) = refl
+reading_again s (Refused number place) = refl
 
-pub reading-settled : (s : List ℕ) (a b : Reading) → meant-reading s a ≡ meant-reading s b → a ≡ b
-reading-settled s a b same = sym (reading-again s a) ∙ ap reading-for same ∙ reading-again s b
+pub reading_settled : (s : List ℕ) (a b : Reading) → meant_reading s a ≡ meant_reading s b → a ≡ b
+reading_settled s a b same = sym (reading_again s a) ∙ ap reading_for same ∙ reading_again s b

@@ -1,8 +1,8 @@
 // Reads a whole request: its parts in order, each refusal handed straight up, and nothing after the last.
 ghost use Rattle.std.specs.Prelude.{◌≡◌};
-ghost use Rattle.rules.specs.Reading.{deadline-part, share_part, read-request};
-ghost use Rattle.parts.specs.Meaning.{meant-part};
-ghost use Rattle.reader.specs.Meaning.{meant-deadline, meant-share, meant-reading, refusal-of};
+ghost use Rattle.rules.specs.Reading.{deadline_part, share_part, read_request};
+ghost use Rattle.parts.specs.Meaning.{meant_part};
+ghost use Rattle.reader.specs.Meaning.{meant_deadline, meant_share, meant_reading, refusal_of};
 
 use parts::Passed;
 use records::{Cursor, Record, RecordAnswer};
@@ -22,7 +22,7 @@ pub struct DeadlinePart {
 
 // After the header: a `D`, where one stands there.
 fn read_deadline(s: &[u8], c: Cursor) -> DeadlinePart
-    ensures { meant-part result.passed (meant-deadline result.deadline) ≡ deadline-part s.now c.at }
+    ensures { meant_part result.passed (meant_deadline result.deadline) ≡ deadline_part s.now c.at }
 {
     if records::kind(s, c) != b'D' {
         return DeadlinePart {
@@ -64,7 +64,7 @@ pub struct SharePart {
 
 // After the header and any deadline: a `K`, where one stands there, beside this budget in the header.
 fn read_share(s: &[u8], c: Cursor, budget: u64) -> SharePart
-    ensures { meant-part result.passed (meant-share result.share) ≡ share_part s.now budget c.at }
+    ensures { meant_part result.passed (meant_share result.share) ≡ share_part s.now budget c.at }
 {
     if records::kind(s, c) != b'K' {
         return SharePart {
@@ -115,9 +115,9 @@ pub enum Reading {
     Refused(u64, usize),
 }
 
-// A part's refusal as the request's. Number 0 is never answered: by its contract `read_request` refuses with 1 to 6 (`stopped-with-1-to-6`, crate `demands`).
+// A part's refusal as the request's. Number 0 is never answered: by its contract `read_request` refuses with 1 to 6 (`stopped_with_1_to_6`, crate `demands`).
 fn refused(passed: Passed) -> Reading
-    ensures { result ≡ refusal-of passed }
+    ensures { result ≡ refusal_of passed }
 {
     match passed {
         Passed::To(next) => Reading::Refused(0, next.at),
@@ -127,7 +127,7 @@ fn refused(passed: Passed) -> Reading
 
 // The request that these bytes are: a view of it where it is good, else the first fault.
 pub fn read_request(s: &[u8]) -> Reading
-    ensures { meant-reading s.now result ≡ read-request s.now }
+    ensures { meant_reading s.now result ≡ read_request s.now }
 {
     let answer = records::read_header(s, Cursor { at: 0 });
     let RecordAnswer::Read(headed, found) = answer else {

@@ -11,8 +11,8 @@ pub record FromClock (clock m : ℕ) (f : ℕ → ℕ) (xs : List ℕ) : Type 0 
   pub past : (j : ℕ) → m ≤ j → j < 16 → at xs j ≡ clock
 
 -- Two such arrays are one.
-pub from-clock-settled : {clock m : ℕ} {f : ℕ → ℕ} {xs ys : List ℕ} → FromClock clock m f xs → FromClock clock m f ys → xs ≡ ys
-from-clock-settled {clock} {m} {f} {xs} {ys} one other =
+pub from_clock_settled : {clock m : ℕ} {f : ℕ → ℕ} {xs ys : List ℕ} → FromClock clock m f xs → FromClock clock m f ys → xs ≡ ys
+from_clock_settled {clock} {m} {f} {xs} {ys} one other =
     ext_get_or 0 xs ys (one.size ∙ sym other.size) (λ j l. go j (omega (arith, one.size)) (dec_lt j m))
   where
     go : (j : ℕ) → j < 16 → Dec (j < m) → at xs j ≡ at ys j

@@ -2,9 +2,9 @@
 ghost use Rattle.std.specs.Prelude.{◌≡◌, ◌≤◌, ◌<◌, length};
 ghost use Rattle.rules.specs.Start.{arrived};
 ghost use Rattle.reader.specs.Meaning.{ViewOf};
-ghost use Rattle.lookup.specs.Lookup.{workflow-of};
+ghost use Rattle.lookup.specs.Lookup.{workflow_of};
 ghost use Rattle.links.specs.Links.{Linked};
-ghost use Rattle.laws.specs.Bounds.{finish-most};
+ghost use Rattle.laws.specs.Bounds.{finish_most};
 ghost use Rattle.laws.specs.Stores.{at};
 ghost use Rattle.laws.specs.Filled.{AtMost};
 ghost use Rattle.ready.specs.Ready.{WaitedFor, FromClock};
@@ -37,8 +37,8 @@ pub fn ready_on_all<'a>(
     clock: u64,
 ) -> [u64; 16]
     requires view_of { ViewOf s.now v }
-    requires task_lt_tasks { (task < v.tasks) × Linked (workflow-of s.now v) v.edges last.now before.now × AtMost finish-most ends.now }
-    ensures { FromClock clock v.processors (arrived (workflow-of s.now v) (at sits.now) (at ends.now) task) result }
+    requires task_lt_tasks { (task < v.tasks) × Linked (workflow_of s.now v) v.edges last.now before.now × AtMost finish_most ends.now }
+    ensures { FromClock clock v.processors (arrived (workflow_of s.now v) (at sits.now) (at ends.now) task) result }
 {
     let mut all = [clock; 16];
     let mut next = last[task] as usize;

@@ -3,12 +3,12 @@ use Rattle.std.specs.Prelude.{ℕ, ◌<◌, ◌≡◌}
 use Rattle.std.proofs.Common.{arith}
 use Rattle.rules.specs.Workflow.{Workflow}
 use Rattle.rules.specs.Start.{awaited, arrived}
-use Rattle.rules.specs.Why.{last-to-arrive}
-use Rattle.laws.specs.Highest.{largest-of-some, highest-below}
+use Rattle.rules.specs.Why.{last_to_arrive}
+use Rattle.laws.specs.Highest.{largest_of_some, highest_below}
 
-pub arrives-by-an-edge :
-    (W : Workflow) (sits ends : ℕ → ℕ) (i j : ℕ) {t e m : ℕ} → e ≡ last-to-arrive W sits ends i j → m ≡ arrived W sits ends i j → t < m → e < W.edges
-unfolding arrived last-to-arrive
-arrives-by-an-edge W sits ends i j is minute late =
+pub arrives_by_an_edge :
+    (W : Workflow) (sits ends : ℕ → ℕ) (i j : ℕ) {t e m : ℕ} → e ≡ last_to_arrive W sits ends i j → m ≡ arrived W sits ends i j → t < m → e < W.edges
+unfolding arrived last_to_arrive
+arrives_by_an_edge W sits ends i j is minute late =
     let inputs : ℕ → ℕ = awaited W sits ends i j in
-    omega (arith, is, highest-below W.edges inputs (largest-of-some W.edges inputs (omega (arith, minute))))
+    omega (arith, is, highest_below W.edges inputs (largest_of_some W.edges inputs (omega (arith, minute))))

@@ -2,14 +2,14 @@
 ghost use Rattle.std.specs.Prelude.{◌≡◌, ◌≤◌, ◌<◌};
 ghost use Rattle.rules.specs.Start as rules;
 ghost use Rattle.rules.specs.Start.{arrived, overlap};
-ghost use Rattle.rules.specs.Why.{last-to-arrive, earliest-met, meets-row, lowest-met, why-placed};
-ghost use Rattle.laws.specs.Bounds.{finish-most};
+ghost use Rattle.rules.specs.Why.{last_to_arrive, earliest_met, meets_row, lowest_met, why_placed};
+ghost use Rattle.laws.specs.Bounds.{finish_most};
 ghost use Rattle.laws.specs.Stores.{at};
 ghost use Rattle.laws.specs.Filled.{AtMost};
 ghost use Rattle.reader.specs.Meaning.{ViewOf};
-ghost use Rattle.lookup.specs.Lookup.{workflow-of};
-ghost use Rattle.reasons.specs.Meant.{meant-why, meant-met};
-ghost use Rattle.reasons.specs.MetLaws.{met-with};
+ghost use Rattle.lookup.specs.Lookup.{workflow_of};
+ghost use Rattle.reasons.specs.Meant.{meant_why, meant_met};
+ghost use Rattle.reasons.specs.MetLaws.{met_with};
 
 use lookup::Window;
 use reader::View;
@@ -51,8 +51,8 @@ fn awaited(
     edge: usize,
 ) -> u64
     requires view_of { ViewOf s.now v }
-    requires edge_lt_edges { (edge < v.edges) × AtMost finish-most ends.now }
-    ensures { result ≡ rules.awaited (workflow-of s.now v) (at sits.now) (at ends.now) task processor edge }
+    requires edge_lt_edges { (edge < v.edges) × AtMost finish_most ends.now }
+    ensures { result ≡ rules.awaited (workflow_of s.now v) (at sits.now) (at ends.now) task processor edge }
 {
     let from = lookup::from(s, v, edge);
     let across = lookup::transfer(s, v, edge);
@@ -70,8 +70,8 @@ fn last_to_arrive(
     processor: u64,
 ) -> Arrival
     requires view_of { ViewOf s.now v }
-    requires at_most { AtMost finish-most ends.now }
-    ensures { (result.edge ≡ last-to-arrive (workflow-of s.now v) (at sits.now) (at ends.now) task processor) × (result.minute ≡ arrived (workflow-of s.now v) (at sits.now) (at ends.now) task processor) }
+    requires at_most { AtMost finish_most ends.now }
+    ensures { (result.edge ≡ last_to_arrive (workflow_of s.now v) (at sits.now) (at ends.now) task processor) × (result.minute ≡ arrived (workflow_of s.now v) (at sits.now) (at ends.now) task processor) }
 {
     let mut edge = 0;
     let mut minute = 0;
@@ -94,7 +94,7 @@ fn overlaps(begin: u64, end: u64, other_begin: u64, other_end: u64) -> bool
 
 // What is met by a task that runs from `begin` to `end` on a processor, with one window more: the one that begins earlier, where it would overlap both.
 fn with_window(so_far: Met, window: Window, processor: u64, begin: u64, end: u64) -> Met
-    ensures { meant-met result ≡ met-with window.processor (record { begin = window.begin; end = window.end }) processor (record { begin = begin; end = end }) (meant-met so_far) }
+    ensures { meant_met result ≡ met_with window.processor (record { begin = window.begin; end = window.end }) processor (record { begin = begin; end = end }) (meant_met so_far) }
 {
     if window.processor as u64 != processor {
         return so_far;
@@ -118,8 +118,8 @@ fn with_window(so_far: Met, window: Window, processor: u64, begin: u64, end: u64
 // The earliest window of a processor that a task of so many minutes would overlap, started at `start`.
 fn window_met(s: &[u8], v: View, processor: u64, minutes: u64, start: u64) -> Met
     requires view_of { ViewOf s.now v }
-    requires start_le_finish_most { (start ≤ finish-most) × (minutes ≤ 2_000) }
-    ensures { meant-met result ≡ earliest-met ((workflow-of s.now v).busy-at-first processor) minutes start }
+    requires start_le_finish_most { (start ≤ finish_most) × (minutes ≤ 2_000) }
+    ensures { meant_met result ≡ earliest_met ((workflow_of s.now v).busy_at_first processor) minutes start }
 {
     let end = start + minutes;
     let mut met = Met::Nothing;
@@ -142,8 +142,8 @@ fn meets_row(
     start: u64,
     other: usize,
 ) -> bool
-    requires { (task < 64) × (other < 64) × (start ≤ finish-most) × (minutes ≤ 2_000) }
-    ensures { result ≡ meets-row (at sits.now) (at begins.now) (at ends.now) minutes task start other }
+    requires { (task < 64) × (other < 64) × (start ≤ finish_most) × (minutes ≤ 2_000) }
+    ensures { result ≡ meets_row (at sits.now) (at begins.now) (at ends.now) minutes task start other }
 {
     if other == task {
         return false;
@@ -164,8 +164,8 @@ fn row_met(
     task: usize,
     start: u64,
 ) -> usize
-    requires { (n ≤ 64) × (task < 64) × (start ≤ finish-most) × (minutes ≤ 2_000) }
-    ensures { (result ≡ lowest-met n (at sits.now) (at begins.now) (at ends.now) minutes task start) × (result < 64) }
+    requires { (n ≤ 64) × (task < 64) × (start ≤ finish_most) × (minutes ≤ 2_000) }
+    ensures { (result ≡ lowest_met n (at sits.now) (at begins.now) (at ends.now) minutes task start) × (result < 64) }
 {
     let mut lowest = 0;
     let mut k = 0;
@@ -190,8 +190,8 @@ pub fn why_placed(
 ) -> Why
     requires view_of { ViewOf s.now v }
     requires task_lt_tasks { (task < v.tasks) × (at processors.now task < v.processors) }
-    requires task_bound { (at starts.now task ≤ finish-most) × AtMost finish-most finishes.now }
-    ensures { meant-why result ≡ why-placed (workflow-of s.now v) (at processors.now) (at starts.now) (at finishes.now) task start }
+    requires task_bound { (at starts.now task ≤ finish_most) × AtMost finish_most finishes.now }
+    ensures { meant_why result ≡ why_placed (workflow_of s.now v) (at processors.now) (at starts.now) (at finishes.now) task start }
 {
     let own = starts[task];
     if own <= start {

@@ -6,19 +6,19 @@ use Rattle.records.specs.declared.RecordAnswer.{RecordAnswer}
 use Rattle.records.specs.declared.RecordAnswer.TheVariants.{Read, Refused}
 
 -- A record with its fields.
-abbrev pub meant-record : Record → rules.Record
-meant-record (Header tasks processors budget) = rules.header tasks processors budget
-meant-record (Deadline deadline) = rules.deadline deadline
-meant-record (Share share) = rules.share share
-meant-record (Price processor price) = rules.price processor price
-meant-record (Minimum processor price minimum) = rules.minimum processor price minimum
-meant-record (Window processor begin end) = rules.window processor begin end
-meant-record (Task task label) = rules.task task label
-meant-record (Minutes task processor minutes) = rules.minutes task processor minutes
-meant-record (Edge from to transfer) = rules.edge from to transfer
-meant-record End = rules.end
+abbrev pub meant_record : Record → rules.Record
+meant_record (Header tasks processors budget) = rules.header tasks processors budget
+meant_record (Deadline deadline) = rules.deadline deadline
+meant_record (Share share) = rules.share share
+meant_record (Price processor price) = rules.price processor price
+meant_record (Minimum processor price minimum) = rules.minimum processor price minimum
+meant_record (Window processor begin end) = rules.window processor begin end
+meant_record (Task task label) = rules.task task label
+meant_record (Minutes task processor minutes) = rules.minutes task processor minutes
+meant_record (Edge from to transfer) = rules.edge from to transfer
+meant_record End = rules.end
 
 -- The record with the place past it; or the refusal's number and its place.
 abbrev pub meant : RecordAnswer → rules.Read rules.Record
-meant (Read next r) = rules.read next.at (meant-record r)
+meant (Read next r) = rules.read next.at (meant_record r)
 meant (Refused number place) = rules.stopped number place

@@ -1,8 +1,8 @@
 // Reads one record of a request: the record with its fields and the cursor past it, or a refusal with its place.
 ghost use Rattle.std.specs.Prelude.{◌≡◌, ◌+◌, ◌≤◌, [], ◌++◌, length};
 ghost use Rattle.rules.specs.Fields.{byte};
-ghost use Rattle.rules.specs.Records.{first-fault, opening-by, price-checks};
-ghost use Rattle.rules.specs.Records.{header_at, deadline-at, share-at, price-at, minimum-at, processor-at, task-at, minutes-at, end-at};
+ghost use Rattle.rules.specs.Records.{first_fault, opening_by, price_checks};
+ghost use Rattle.rules.specs.Records.{header_at, deadline_at, share_at, price_at, minimum_at, processor_at, task_at, minutes_at, end_at};
 ghost use Rattle.records.specs.Meaning.{meant};
 
 // Where a record begins.
@@ -104,7 +104,7 @@ pub fn read_header(s: &[u8], c: Cursor) -> RecordAnswer
 
 // `D`: deadline 1..200,000.
 pub fn read_deadline(s: &[u8], c: Cursor) -> RecordAnswer
-    ensures { meant result ≡ deadline-at s.now c.at }
+    ensures { meant result ≡ deadline_at s.now c.at }
 {
     let at = c.at;
     let fault = fields::opening_fault(s, at, b'D', 5);
@@ -120,7 +120,7 @@ pub fn read_deadline(s: &[u8], c: Cursor) -> RecordAnswer
 
 // `K`: share 0..1,000, beside a budget of 0 in `H`.
 pub fn read_share(s: &[u8], c: Cursor, budget: u64) -> RecordAnswer
-    ensures { meant result ≡ share-at s.now budget c.at }
+    ensures { meant result ≡ share_at s.now budget c.at }
 {
     let at = c.at;
     let fault = fields::opening_fault(s, at, b'K', 3);
@@ -141,7 +141,7 @@ pub fn read_share(s: &[u8], c: Cursor, budget: u64) -> RecordAnswer
 // where its price is not in 0..100; 0 where nothing is.
 fn price_fault(s: &[u8], at: usize, kind: u8, size: usize, due: usize) -> u64
     requires { 3 ≤ size }
-    ensures { (result ≡ first-fault (opening-by s.now at kind size ++ price-checks s.now at due [])) × (result ≡ 0 → at + size ≤ length s.now) }
+    ensures { (result ≡ first_fault (opening_by s.now at kind size ++ price_checks s.now at due [])) × (result ≡ 0 → at + size ≤ length s.now) }
 {
     let fault = fields::opening_fault(s, at, kind, size);
     if fault != 0 {
@@ -158,7 +158,7 @@ fn price_fault(s: &[u8], at: usize, kind: u8, size: usize, due: usize) -> u64
 
 // `P` of the processor that is due: price 0..100.
 fn read_price(s: &[u8], c: Cursor, due: usize) -> RecordAnswer
-    ensures { meant result ≡ price-at s.now c.at due }
+    ensures { meant result ≡ price_at s.now c.at due }
 {
     let at = c.at;
     let fault = price_fault(s, at, b'P', 3, due);
@@ -172,7 +172,7 @@ fn read_price(s: &[u8], c: Cursor, due: usize) -> RecordAnswer
 
 // `Q` of the processor that is due: price 0..100, minimum 0..10,000.
 fn read_minimum(s: &[u8], c: Cursor, due: usize) -> RecordAnswer
-    ensures { meant result ≡ minimum-at s.now c.at due }
+    ensures { meant result ≡ minimum_at s.now c.at due }
 {
     let at = c.at;
     let fault = price_fault(s, at, b'Q', 5, due);
@@ -197,7 +197,7 @@ fn read_minimum(s: &[u8], c: Cursor, due: usize) -> RecordAnswer
 
 // A `Q`, where one stands there, or else the `P` of the processor that is due.
 pub fn read_processor(s: &[u8], c: Cursor, due: usize) -> RecordAnswer
-    ensures { meant result ≡ processor-at s.now c.at due }
+    ensures { meant result ≡ processor_at s.now c.at due }
 {
     if kind(s, c) == b'Q' {
         return read_minimum(s, c, due);
@@ -207,7 +207,7 @@ pub fn read_processor(s: &[u8], c: Cursor, due: usize) -> RecordAnswer
 
 // `T` of the task that is due, with its label.
 pub fn read_task(s: &[u8], c: Cursor, due: usize) -> RecordAnswer
-    ensures { meant result ≡ task-at s.now c.at due }
+    ensures { meant result ≡ task_at s.now c.at due }
 {
     let at = c.at;
     let fault = fields::opening_fault(s, at, b'T', 10);
@@ -228,7 +228,7 @@ pub fn read_task(s: &[u8], c: Cursor, due: usize) -> RecordAnswer
 
 // `W` of the task and the processor that are due: minutes 0..2,000.
 pub fn read_minutes(s: &[u8], c: Cursor, due_task: usize, due_processor: usize) -> RecordAnswer
-    ensures { meant result ≡ minutes-at s.now c.at due_task due_processor }
+    ensures { meant result ≡ minutes_at s.now c.at due_task due_processor }
 {
     let at = c.at;
     let fault = fields::opening_fault(s, at, b'W', 5);
@@ -259,7 +259,7 @@ pub fn read_minutes(s: &[u8], c: Cursor, due_task: usize, due_processor: usize) 
 
 // `Z`.
 pub fn read_end(s: &[u8], c: Cursor) -> RecordAnswer
-    ensures { meant result ≡ end-at s.now c.at }
+    ensures { meant result ≡ end_at s.now c.at }
 {
     let at = c.at;
     let fault = fields::opening_fault(s, at, b'Z', 1);

@@ -29,10 +29,10 @@ module _ {M : Type 1} {𝓤 : Ura M} (𝓛 : Logic 𝓤) (R : RattleType) (one :
   abbrev cell : Val → SProp 𝓤
   cell v = H.at full_share array b zero v
 
-  pub elements-of : (xs : List R.Denot) (v : Val)
+  pub elements_of : (xs : List R.Denot) (v : Val)
       → ent 𝓤 (sep 𝓤 (cell v) (sem 𝓛 ((Array R n).own_val xs (v ∷ [])))) (sem 𝓛 (cells (mem R) xs b zero))
   unfolding part_of
-  elements-of xs v =
+  elements_of xs v =
       qed 𝓛 (‵ (fat full_share array b zero v) ∷ ‵ ((Array R n).own_val xs (v ∷ [])) ∷ []) ∵
       use1 𝓛 (‵ (cell_at full_share (array ∷ []) (v ∷ []) b zero)) (𝓛.laws.at_raw full_share array b zero v) $ fjoin ! $
       fpack ! (List Val) (λ vs. fsep (cell_at full_share (array ∷ []) vs b zero) ((Array R n).own_val xs vs)) (v ∷ []) $

@@ -65,14 +65,14 @@ module _ {M : Type 1} {𝓤 : Ura M} {𝓛 : Logic 𝓤} {K : Type 0} {Γ : List
   -- A function that meets its contract is called at y, and φ, which its `ensures` says, is learned.
   open 𝓛 use {H}
 
-  pub calls-met : K → {f : Name} {xs : List Operand} {d : Place} (S : Ended) (c : Clauses 𝓤 S) → FmC 𝓤 H 𝓛.laws C
+  pub calls_met : K → {f : Name} {xs : List Operand} {d : Place} (S : Ended) (c : Clauses 𝓤 S) → FmC 𝓤 H 𝓛.laws C
       → Triple 𝓤 (C f) (contractOf 𝓛 S c)
       → (y : (contractOf 𝓛 S c).Ghost) (φ : Returned 𝓛 S c y → Last 𝓛 S c y → Type 0) → Says 𝓛 S c y φ
       → Opds K 𝓛 (raw ((contractOf 𝓛 S c).pre y) ∷ Γ) E xs ((contractOf 𝓛 S c).args y)
       → ((v : Val) (r : Returned 𝓛 S c y) (ws : Last 𝓛 S c y) → φ r ws → Is (result 𝓛 S c y) r (v ∷ [])
       → Seq K 𝓛 (‵ ((result 𝓛 S c y).own_val r (v ∷ [])) ∷ ‵ (leaves 𝓛 S c y ws) ∷ raw (tokens 𝓛 S c y) ∷ Γ) (lands C Λ E d v rest q))
       → Seq K 𝓛 (raw ((contractOf 𝓛 S c).pre y) ∷ Γ) (runs C Λ E (seq (call f xs d) rest) q)
-  calls-met t S c fm met y φ says os k =
+  calls_met t S c fm met y φ says os k =
       let R = result 𝓛 S c y in
       let Ensured = ensured 𝓛 S c y.0.0 y.0.3 y.1 in
       calls_at t fm (contractOf 𝓛 S c) met y os

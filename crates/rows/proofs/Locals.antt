@@ -57,10 +57,10 @@ module _ {M : Type 1} {𝓤 : Ura M} (𝓛 : Logic 𝓤) where
     has_room l empty = id⊢ 𝓤 (H.room l.0 l.1 zero)
     has_room l (holds v) = 𝓛.laws.at_room l.0 l.1 zero v
 
-    with-local : (l : Ty × ℕ) (c d : Cell) (Γ Δ : List (Item 𝓤)) → ent 𝓤 (mean 𝓛 (cell l c)) (mean 𝓛 (cell l d))
+    with_local : (l : Ty × ℕ) (c d : Cell) (Γ Δ : List (Item 𝓤)) → ent 𝓤 (mean 𝓛 (cell l c)) (mean 𝓛 (cell l d))
         → ent 𝓤 (⋆ 𝓛 Γ) (⋆ 𝓛 Δ)
         → ent 𝓤 (⋆ 𝓛 (cell l c ∷ ‵ (fdies l.0 l.1) ∷ Γ)) (⋆ 𝓛 (cell l d ∷ ‵ (fdies l.0 l.1) ∷ Δ))
-    with-local l c d Γ Δ g h =
+    with_local l c d Γ Δ g h =
         via 𝓤 (sep 𝓤 (mean 𝓛 (cell l d)) (⋆ 𝓛 (‵ (fdies l.0 l.1) ∷ Δ)))
         (mono∗ 𝓤 g
         (via 𝓤 (sep 𝓤 (H.dies l.0 l.1) (⋆ 𝓛 Γ)) (pop 𝓛 (‵ (fdies l.0 l.1)) Γ)
@@ -80,21 +80,21 @@ module _ {M : Type 1} {𝓤 : Ura M} (𝓛 : Logic 𝓤) where
         use1 𝓛 (raw P ⊛ raw (release 𝓤 H ls Q)) (released ls P Q) $ split ! $ frame ! $ move ! (1 ∷ 0 ∷ []) $ done !
 
     -- Locals may be told of less.
-    told-less : (ls : Env 𝓤 H) (cs : List Cell) (k : ℕ) (Γ Δ : List (Item 𝓤)) → ent 𝓤 (⋆ 𝓛 Γ) (⋆ 𝓛 Δ)
+    told_less : (ls : Env 𝓤 H) (cs : List Cell) (k : ℕ) (Γ Δ : List (Item 𝓤)) → ent 𝓤 (⋆ 𝓛 Γ) (⋆ 𝓛 Δ)
         → ent 𝓤 (⋆ 𝓛 (held ls cs Γ)) (⋆ 𝓛 (held ls (take k cs) Δ))
-    told-less [] cs k Γ Δ h = h
-    told-less (l ∷ ls) [] zero Γ Δ h = told-less ls [] zero _ _ (with-local l empty empty Γ Δ (id⊢ 𝓤 _) h)
-    told-less (l ∷ ls) [] (suc k) Γ Δ h = told-less ls [] zero _ _ (with-local l empty empty Γ Δ (id⊢ 𝓤 _) h)
-    told-less (l ∷ ls) (c ∷ cs) zero Γ Δ h = told-less ls cs zero _ _ (with-local l c empty Γ Δ (has_room l c) h)
-    told-less (l ∷ ls) (c ∷ cs) (suc k) Γ Δ h = told-less ls cs k _ _ (with-local l c c Γ Δ (id⊢ 𝓤 _) h)
+    told_less [] cs k Γ Δ h = h
+    told_less (l ∷ ls) [] zero Γ Δ h = told_less ls [] zero _ _ (with_local l empty empty Γ Δ (id⊢ 𝓤 _) h)
+    told_less (l ∷ ls) [] (suc k) Γ Δ h = told_less ls [] zero _ _ (with_local l empty empty Γ Δ (id⊢ 𝓤 _) h)
+    told_less (l ∷ ls) (c ∷ cs) zero Γ Δ h = told_less ls cs zero _ _ (with_local l c empty Γ Δ (has_room l c) h)
+    told_less (l ∷ ls) (c ∷ cs) (suc k) Γ Δ h = told_less ls cs k _ _ (with_local l c c Γ Δ (id⊢ 𝓤 _) h)
 
-    all-freed : (ls : Env 𝓤 H) (cs : List Cell) (Γ : List (Item 𝓤)) (P : SProp 𝓤) → ent 𝓤 (⋆ 𝓛 Γ) P
+    all_freed : (ls : Env 𝓤 H) (cs : List Cell) (Γ : List (Item 𝓤)) (P : SProp 𝓤) → ent 𝓤 (⋆ 𝓛 Γ) P
         → ent 𝓤 (⋆ 𝓛 (held ls cs Γ)) (release 𝓤 H ls P)
-    all-freed [] cs Γ P h = h
-    all-freed (l ∷ ls) [] Γ P h =
-        via 𝓤 (release 𝓤 H ls (sep 𝓤 (freeing l) P)) (all-freed ls [] _ (sep 𝓤 (freeing l) P) (freed l empty Γ P h)) (released ls (freeing l) P)
-    all-freed (l ∷ ls) (c ∷ cs) Γ P h =
-        via 𝓤 (release 𝓤 H ls (sep 𝓤 (freeing l) P)) (all-freed ls cs _ (sep 𝓤 (freeing l) P) (freed l c Γ P h)) (released ls (freeing l) P)
+    all_freed [] cs Γ P h = h
+    all_freed (l ∷ ls) [] Γ P h =
+        via 𝓤 (release 𝓤 H ls (sep 𝓤 (freeing l) P)) (all_freed ls [] _ (sep 𝓤 (freeing l) P) (freed l empty Γ P h)) (released ls (freeing l) P)
+    all_freed (l ∷ ls) (c ∷ cs) Γ P h =
+        via 𝓤 (release 𝓤 H ls (sep 𝓤 (freeing l) P)) (all_freed ls cs _ (sep 𝓤 (freeing l) P) (freed l c Γ P h)) (released ls (freeing l) P)
 
 -- What is told of the locals in a context where local 0 is entry z.
 module _ {M : Type 1} {𝓤 : Ura M} (𝓛 : Logic 𝓤) (E : Env 𝓤 𝓛.H) (z : ℕ) where
@@ -118,16 +118,16 @@ module _ {M : Type 1} {𝓤 : Ura M} {𝓛 : Logic 𝓤} {K : Type 0} where
   -- All locals are allocated.
   open 𝓛 use {H}
 
-  pub allocs-all : K → (xs : List Local) {Γ : List (Item 𝓤)} {Kt : Env 𝓤 H → Goal 𝓤 H}
+  pub allocs_all : K → (xs : List Local) {Γ : List (Item 𝓤)} {Kt : Env 𝓤 H → Goal 𝓤 H}
       → ((l : ℕ → ℕ) → Seq K 𝓛 (held 𝓛 (env 𝓛 xs l) [] Γ) (Kt (env 𝓛 xs l))) → Seq K 𝓛 Γ (allocs xs Kt)
-  allocs-all t [] k = alloc0 t $ k (λ _. zero)
-  allocs-all t (local-of τ h ∷ xs) k = alloc1 t (λ b. allocs-all t xs (λ l. k (cons b l)))
+  allocs_all t [] k = alloc0 t $ k (λ _. zero)
+  allocs_all t (local-of τ h ∷ xs) k = alloc1 t (λ b. allocs_all t xs (λ l. k (cons b l)))
 
   -- The locals from k on are emptied.
   pub forgets : K → (E : Env 𝓤 H) (k : ℕ) (cs : List Cell) (Δ : List (Item 𝓤)) {g : Goal 𝓤 H}
       → Step K 𝓛 (held 𝓛 E (take k cs) Δ) g (held 𝓛 E cs Δ) g
   forgets t E k cs Δ {g} =
-      step (λ s. record { prf = via 𝓤 (⋆ 𝓛 (held 𝓛 E (take k cs) Δ)) (told-less 𝓛 E cs k Δ Δ (id⊢ 𝓤 (⋆ 𝓛 Δ))) s.prf })
+      step (λ s. record { prf = via 𝓤 (⋆ 𝓛 (held 𝓛 E (take k cs) Δ)) (told_less 𝓛 E cs k Δ Δ (id⊢ 𝓤 (⋆ 𝓛 Δ))) s.prf })
 
 module _ {M : Type 1} {𝓤 : Ura M} {𝓛 : Logic 𝓤} {K : Type 0} {Γ : List (Item 𝓤)} where
   -- The first n entries are put last.
@@ -147,11 +147,11 @@ module _ {M : Type 1} {𝓤 : Ura M} {𝓛 : Logic 𝓤} {K : Type 0} {Γ : List
   module _ {E : Env 𝓤 H} where
     -- All locals are freed.
     pub frees_all : K → (cs : List Cell) {g : Goal 𝓤 H} → Step K 𝓛 Γ g (held 𝓛 E cs Γ) (frees E g)
-    frees_all t cs {g} = step (λ s. record { prf = all-freed 𝓛 E cs Γ (aim 𝓤 H g) s.prf })
+    frees_all t cs {g} = step (λ s. record { prf = all_freed 𝓛 E cs Γ (aim 𝓤 H g) s.prf })
 
     -- Local k is read.
-    pub of-local : K → (z : ℕ) {k : ℕ} {v : Val} → Told 𝓛 E z Γ k (holds v) → Opd K 𝓛 Γ E (copy (place k [])) v
-    of-local t z {k} e = load t (from t (stop t)) (look t (z - 2 * k) e)
+    pub of_local : K → (z : ℕ) {k : ℕ} {v : Val} → Told 𝓛 E z Γ k (holds v) → Opd K 𝓛 Γ E (copy (place k [])) v
+    of_local t z {k} e = load t (from t (stop t)) (look t (z - 2 * k) e)
 
     -- Field j of local k is read.
     pub of_field : K → (z : ℕ) {k j : ℕ} {τ : Ty} {d : ℕ} {q : Share} {v : Val} {back : Val → Item 𝓤}
@@ -166,9 +166,9 @@ module _ {M : Type 1} {𝓤 : Ura M} {𝓛 : Logic 𝓤} {K : Type 0} {Γ : List
       sets t z {k} r e wt = assigns t r (from t (stop t)) (init t (z - 2 * k) e wt)
 
       -- It is set to what a call returned.
-      pub sets-returned : K → (z : ℕ) {k : ℕ} {v : Val} → Told 𝓛 E z Γ k empty → Fits 𝓛 E z k v
+      pub sets_returned : K → (z : ℕ) {k : ℕ} {v : Val} → Told 𝓛 E z Γ k empty → Fits 𝓛 E z k v
           → Step K 𝓛 (filled 𝓛 E z Γ k v) (runs C Λ E rest q) Γ (lands C Λ E (place k []) v rest q)
-      sets-returned t z {k} e wt = land t (from t (stop t)) (init t (z - 2 * k) e wt)
+      sets_returned t z {k} e wt = land t (from t (stop t)) (init t (z - 2 * k) e wt)
 
       -- The test of a `while`: it holds and the turn goes on, or it fails and the loop is left.
       pub whiles : K → {c : Operand} {n : ℕ} {y : Bool} → Opd K 𝓛 Γ E c (vbool y) → (T y → Seq K 𝓛 Γ (runs C Λ E rest q))

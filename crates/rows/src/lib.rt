@@ -1,7 +1,7 @@
 // The plan of a request by the method that is asked for, its rows as structs: in a lent slice, or 64 of them by value.
 ghost use Rattle.std.specs.Prelude.{◌≡◌, ◌<◌, ◌≤◌, length, replicate};
 ghost use Rattle.laws.specs.Overwritten.{overwritten};
-ghost use Rattle.choosing.specs.Named.{meant-method};
+ghost use Rattle.choosing.specs.Named.{meant_method};
 ghost use Rattle.planner.specs.Planned.{rows_told};
 ghost use Rattle.rows.specs.Planned.{row_at, PlannedRows, PlannedWhole};
 
@@ -61,7 +61,7 @@ fn store(rows: &mut [Row], n: usize, p: Planning)
 // Plans a request by the method that is asked for, with as many rows lent as the slice has. A plan writes rows 0 to n-1 and keeps what stands after them; a
 // refusal changes nothing.
 pub fn plan(request: &[u8], method: Method, rows: &mut [Row]) -> Answer
-    ensures { PlannedRows (meant-method method) request.now rows.old rows.new result }
+    ensures { PlannedRows (meant_method method) request.now rows.old rows.new result }
 {
     let lent = rows.len();
     let p = asked::plan(request, method, lent);
@@ -93,7 +93,7 @@ fn whole(answer: Answer, rows: [Row; 64]) -> WholePlan
 
 // Plans a request by the method that is asked for, with 64 rows that hold `blank`: those that the plan does not write still hold it.
 pub fn plan_whole(request: &[u8], method: Method, blank: Row) -> WholePlan
-    ensures { PlannedWhole (meant-method method) request.now blank result }
+    ensures { PlannedWhole (meant_method method) request.now blank result }
 {
     let mut rows = blank_rows(blank);
     let answer = plan(request, method, &mut rows);

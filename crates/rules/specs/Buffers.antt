@@ -2,8 +2,8 @@
 use Rattle.std.specs.Prelude.{ℕ, min, List, ◌++◌, length, drop, get_or}
 use Rattle.rules.specs.Folds.{listing}
 use Rattle.rules.specs.Rows.{Row, row_of}
-use Rattle.rules.specs.Method.{Name, by-HBCS}
-use Rattle.rules.specs.Answer.{Outcome, plan, refusal, outcome-asked}
+use Rattle.rules.specs.Method.{Name, by_HBCS}
+use Rattle.rules.specs.Answer.{Outcome, plan, refusal, outcome_asked}
 
 pub record Buffers : Type 0 where
   pub processors : List ℕ
@@ -12,8 +12,8 @@ pub record Buffers : Type 0 where
   pub costs : List ℕ
 
 -- A row needs a number of each, so as many rows are lent as the shortest buffer has numbers.
-unfoldable pub rows-lent : Buffers → ℕ
-rows-lent b = min (min (length b.processors) (length b.starts)) (min (length b.finishes) (length b.costs))
+unfoldable pub rows_lent : Buffers → ℕ
+rows_lent b = min (min (length b.processors) (length b.starts)) (min (length b.finishes) (length b.costs))
 
 -- Row i of four buffers, for i below the rows lent.
 unfoldable pub row_in : Buffers → ℕ → Row
@@ -26,22 +26,22 @@ row_in b i =
     }
 
 -- One buffer after the call: a plan writes one field of rows 0 to n-1, and what stands after them stays; a refusal changes nothing.
-unfoldable pub column-after : (Row → ℕ) → Outcome → List ℕ → List ℕ
-column-after field (plan W rows) buffer = listing W.tasks (λ i. field (row_of rows i)) ++ drop W.tasks buffer
-column-after field (refusal number place) buffer = buffer
+unfoldable pub column_after : (Row → ℕ) → Outcome → List ℕ → List ℕ
+column_after field (plan W rows) buffer = listing W.tasks (λ i. field (row_of rows i)) ++ drop W.tasks buffer
+column_after field (refusal number place) buffer = buffer
 
-unfoldable pub buffers-written : Outcome → Buffers → Buffers
-buffers-written o b =
+unfoldable pub buffers_written : Outcome → Buffers → Buffers
+buffers_written o b =
     record {
-      processors = column-after (λ row. row.processor) o b.processors;
-      starts = column-after (λ row. row.start) o b.starts;
-      finishes = column-after (λ row. row.finish) o b.finishes;
-      costs = column-after (λ row. row.cost) o b.costs;
+      processors = column_after (λ row. row.processor) o b.processors;
+      starts = column_after (λ row. row.start) o b.starts;
+      finishes = column_after (λ row. row.finish) o b.finishes;
+      costs = column_after (λ row. row.cost) o b.costs;
     }
 
 -- The four buffers after the call.
-unfoldable pub buffers-asked : Name → List ℕ → Buffers → Buffers
-buffers-asked M s lent = buffers-written (outcome-asked M s (rows-lent lent)) lent
+unfoldable pub buffers_asked : Name → List ℕ → Buffers → Buffers
+buffers_asked M s lent = buffers_written (outcome_asked M s (rows_lent lent)) lent
 
-abbrev pub buffers-after : List ℕ → Buffers → Buffers
-buffers-after s lent = buffers-asked by-HBCS s lent
+abbrev pub buffers_after : List ℕ → Buffers → Buffers
+buffers_after s lent = buffers_asked by_HBCS s lent

@@ -14,18 +14,18 @@ unfoldable pub linked : Workflow → ℕ → ℕ → Bool
 linked W i k = any W.edges (λ e. eqb (W.from e) i && eqb (W.to e) k)
 
 -- A path from i to k on which every task in between is below `between`.
-unfoldable pub leads-through : Workflow → ℕ → ℕ → ℕ → Bool
-leads-through W zero i k = linked W i k
-leads-through W (suc between) i k =
-    leads-through W between i k || (leads-through W between i between && leads-through W between between k)
+unfoldable pub leads_through : Workflow → ℕ → ℕ → ℕ → Bool
+leads_through W zero i k = linked W i k
+leads_through W (suc between) i k =
+    leads_through W between i k || (leads_through W between i between && leads_through W between between k)
 
 -- A path from task i back to itself.
-unfoldable pub back-to-itself : Workflow → ℕ → Bool
-back-to-itself W i = leads-through W W.tasks i i
+unfoldable pub back_to_itself : Workflow → ℕ → Bool
+back_to_itself W i = leads_through W W.tasks i i
 
 -- The edges have a cycle.
 unfoldable pub cyclic : Workflow → Bool
-cyclic W = any W.tasks (back-to-itself W)
+cyclic W = any W.tasks (back_to_itself W)
 
-unfoldable pub lowest-in-cycle : Workflow → ℕ
-lowest-in-cycle W = first W.tasks (among (back-to-itself W) tie)
+unfoldable pub lowest_in_cycle : Workflow → ℕ
+lowest_in_cycle W = first W.tasks (among (back_to_itself W) tie)

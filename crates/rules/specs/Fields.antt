@@ -5,17 +5,17 @@ use Rattle.std.specs.Prelude.{ℕ, ◌+◌, ◌*◌, List, get_or}
 pub data Kind : Type 0 where
   H D K P Q M T W E Z : Kind
 
-unfoldable pub kind-byte : Kind → ℕ
-kind-byte H = 0x48
-kind-byte D = 0x44
-kind-byte K = 0x4B
-kind-byte P = 0x50
-kind-byte Q = 0x51
-kind-byte M = 0x4D
-kind-byte T = 0x54
-kind-byte W = 0x57
-kind-byte E = 0x45
-kind-byte Z = 0x5A
+unfoldable pub kind_byte : Kind → ℕ
+kind_byte H = 0x48
+kind_byte D = 0x44
+kind_byte K = 0x4B
+kind_byte P = 0x50
+kind_byte Q = 0x51
+kind_byte M = 0x4D
+kind_byte T = 0x54
+kind_byte W = 0x57
+kind_byte E = 0x45
+kind_byte Z = 0x5A
 
 unfoldable pub body : Kind → ℕ
 body H = 6
@@ -43,61 +43,61 @@ unfoldable pub four_bytes : List ℕ → ℕ → ℕ
 four_bytes s at = two_bytes s at + 65_536 * two_bytes s (at + 2)
 
 -- The table's fields, by the letter of their kind, in a record that begins at `at`.
-unfoldable pub H-tasks : List ℕ → ℕ → ℕ
-H-tasks s at = byte s (at + 1)
+unfoldable pub H_tasks : List ℕ → ℕ → ℕ
+H_tasks s at = byte s (at + 1)
 
-unfoldable pub H-processors : List ℕ → ℕ → ℕ
-H-processors s at = byte s (at + 2)
+unfoldable pub H_processors : List ℕ → ℕ → ℕ
+H_processors s at = byte s (at + 2)
 
-unfoldable pub H-budget : List ℕ → ℕ → ℕ
-H-budget s at = four_bytes s (at + 3)
+unfoldable pub H_budget : List ℕ → ℕ → ℕ
+H_budget s at = four_bytes s (at + 3)
 
-unfoldable pub D-deadline : List ℕ → ℕ → ℕ
-D-deadline s at = four_bytes s (at + 1)
+unfoldable pub D_deadline : List ℕ → ℕ → ℕ
+D_deadline s at = four_bytes s (at + 1)
 
-unfoldable pub K-share : List ℕ → ℕ → ℕ
-K-share s at = two_bytes s (at + 1)
+unfoldable pub K_share : List ℕ → ℕ → ℕ
+K_share s at = two_bytes s (at + 1)
 
-unfoldable pub P-processor : List ℕ → ℕ → ℕ
-P-processor s at = byte s (at + 1)
+unfoldable pub P_processor : List ℕ → ℕ → ℕ
+P_processor s at = byte s (at + 1)
 
-unfoldable pub P-price : List ℕ → ℕ → ℕ
-P-price s at = byte s (at + 2)
+unfoldable pub P_price : List ℕ → ℕ → ℕ
+P_price s at = byte s (at + 2)
 
 -- "`Q` has the body of `P` plus 2 bytes, the minimum": the processor and its price stand in a `Q` where they stand in a `P`.
-unfoldable pub Q-minimum : List ℕ → ℕ → ℕ
-Q-minimum s at = two_bytes s (at + 3)
+unfoldable pub Q_minimum : List ℕ → ℕ → ℕ
+Q_minimum s at = two_bytes s (at + 3)
 
-unfoldable pub M-processor : List ℕ → ℕ → ℕ
-M-processor s at = byte s (at + 1)
+unfoldable pub M_processor : List ℕ → ℕ → ℕ
+M_processor s at = byte s (at + 1)
 
-unfoldable pub M-begin : List ℕ → ℕ → ℕ
-M-begin s at = four_bytes s (at + 2)
+unfoldable pub M_begin : List ℕ → ℕ → ℕ
+M_begin s at = four_bytes s (at + 2)
 
-unfoldable pub M-end : List ℕ → ℕ → ℕ
-M-end s at = four_bytes s (at + 6)
+unfoldable pub M_end : List ℕ → ℕ → ℕ
+M_end s at = four_bytes s (at + 6)
 
-unfoldable pub T-task : List ℕ → ℕ → ℕ
-T-task s at = byte s (at + 1)
+unfoldable pub T_task : List ℕ → ℕ → ℕ
+T_task s at = byte s (at + 1)
 
 -- A label is kept as its offset.
-unfoldable pub T-label : ℕ → ℕ
-T-label at = at + 2
+unfoldable pub T_label : ℕ → ℕ
+T_label at = at + 2
 
-unfoldable pub W-task : List ℕ → ℕ → ℕ
-W-task s at = byte s (at + 1)
+unfoldable pub W_task : List ℕ → ℕ → ℕ
+W_task s at = byte s (at + 1)
 
-unfoldable pub W-processor : List ℕ → ℕ → ℕ
-W-processor s at = byte s (at + 2)
+unfoldable pub W_processor : List ℕ → ℕ → ℕ
+W_processor s at = byte s (at + 2)
 
-unfoldable pub W-minutes : List ℕ → ℕ → ℕ
-W-minutes s at = two_bytes s (at + 3)
+unfoldable pub W_minutes : List ℕ → ℕ → ℕ
+W_minutes s at = two_bytes s (at + 3)
 
-unfoldable pub E-from : List ℕ → ℕ → ℕ
-E-from s at = byte s (at + 1)
+unfoldable pub E_from : List ℕ → ℕ → ℕ
+E_from s at = byte s (at + 1)
 
-unfoldable pub E-to : List ℕ → ℕ → ℕ
-E-to s at = byte s (at + 2)
+unfoldable pub E_to : List ℕ → ℕ → ℕ
+E_to s at = byte s (at + 2)
 
-unfoldable pub E-transfer : List ℕ → ℕ → ℕ
-E-transfer s at = two_bytes s (at + 3)
+unfoldable pub E_transfer : List ℕ → ℕ → ℕ
+E_transfer s at = two_bytes s (at + 3)

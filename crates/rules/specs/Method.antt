@@ -21,35 +21,35 @@ best q = first q.processors (lower q.finish (lower q.cost tie))
 
 -- "j may be taken when cost(j) <= cost(best) and cost(j) <= RB - RCB." RCB stands on the left: where it is above RB, RB - RCB is
 -- below 0 and no cost fits, while a difference of natural numbers would stop at 0 and let a free processor through.
-unfoldable pub may-be-taken : Question → ℕ → Bool
-may-be-taken q j = leb (q.cost j) (q.cost (best q)) && leb (q.cost j + q.RCB) q.RB
+unfoldable pub may_be_taken : Question → ℕ → Bool
+may_be_taken q j = leb (q.cost j) (q.cost (best q)) && leb (q.cost j + q.RCB) q.RB
 
-unfoldable pub latest-finish : Question → ℕ
-latest-finish q = largest q.processors q.finish
+unfoldable pub latest_finish : Question → ℕ
+latest_finish q = largest q.processors q.finish
 
 -- "B: highest less lowest cost over all m processors. F: latest less earliest finish over all m."
 unfoldable pub B : Question → ℕ
 B q = largest q.processors q.cost - lowest q.processors q.cost
 
 unfoldable pub F : Question → ℕ
-F q = latest-finish q - lowest q.processors q.finish
+F q = latest_finish q - lowest q.processors q.finish
 
 -- "Where B, F or RB is 0, use 1 as B', F' or RB'."
-unfoldable pub or-one : ℕ → ℕ
-or-one zero = 1
-or-one (suc k) = suc k
+unfoldable pub or_one : ℕ → ℕ
+or_one zero = 1
+or_one (suc k) = suc k
 
 -- "Score of j = (cost(best) - cost(j)) x RCB x F' + (latest finish - finish(j)) x B' x RB'." Asked only of a j that may be taken, so
 -- neither difference is below 0.
 unfoldable pub score : Question → ℕ → ℕ
 score q j =
-    (q.cost (best q) - q.cost j) * q.RCB * or-one (F q)
-    + (latest-finish q - q.finish j) * or-one (B q) * or-one q.RB
+    (q.cost (best q) - q.cost j) * q.RCB * or_one (F q)
+    + (latest_finish q - q.finish j) * or_one (B q) * or_one q.RB
 
 -- "The highest score among those that may be taken wins; ties to earlier finish, then lower number." Where none may be taken no processor is
 -- preferred to another; once the cheapest total fits, one always may (`cheapest-can-always-be-taken` in the demands).
 unfoldable pub preferred : Question → Order
-preferred q = among (may-be-taken q) (higher (score q) (lower q.finish tie))
+preferred q = among (may_be_taken q) (higher (score q) (lower q.finish tie))
 
 unfoldable pub HBCS : Method
 HBCS q = first q.processors (preferred q)
@@ -64,9 +64,9 @@ HEFT q = best q
 
 -- The three by name, as they are asked for.
 pub data Name : Type 0 where
-  by-HBCS by-cheapest by-HEFT : Name
+  by_HBCS by_cheapest by_HEFT : Name
 
 unfoldable pub method : Name → Method
-method by-HBCS = HBCS
-method by-cheapest = Cheapest
-method by-HEFT = HEFT
+method by_HBCS = HBCS
+method by_cheapest = Cheapest
+method by_HEFT = HEFT

@@ -1,6 +1,6 @@
 -- Plan rows, and what the tasks placed so far say.
 use Rattle.std.specs.Prelude.{ℕ, ◌+◌, max, Bool, false, cond, ◌||◌, List, [], ◌∷◌, eqb}
-use Rattle.rules.specs.Workflow.{Interval, Workflow, busy-with}
+use Rattle.rules.specs.Workflow.{Interval, Workflow, busy_with}
 
 -- "row i for task i: processor, start, finish, cost"
 pub record Row : Type 0 where
@@ -21,18 +21,18 @@ unfoldable pub row_of : List Placed → ℕ → Row
 row_of [] i = no_row
 row_of (p ∷ so_far) i = cond (eqb p.task i) p.row (row_of so_far i)
 
-unfoldable pub is-placed : List Placed → ℕ → Bool
-is-placed [] i = false
-is-placed (p ∷ so_far) i = eqb p.task i || is-placed so_far i
+unfoldable pub is_placed : List Placed → ℕ → Bool
+is_placed [] i = false
+is_placed (p ∷ so_far) i = eqb p.task i || is_placed so_far i
 
 -- The minutes that a row takes up.
-abbrev pub taken-up : Row → Interval
-taken-up r = record { begin = r.start; end = r.finish }
+abbrev pub taken_up : Row → Interval
+taken_up r = record { begin = r.start; end = r.finish }
 
 -- "what j is busy with at first are its windows, and each row placed there is one interval more"
 unfoldable pub busy : Workflow → List Placed → ℕ → List Interval
-busy W [] = W.busy-at-first
-busy W (p ∷ so_far) = busy-with p.row.processor (taken-up p.row) (busy W so_far)
+busy W [] = W.busy_at_first
+busy W (p ∷ so_far) = busy_with p.row.processor (taken_up p.row) (busy W so_far)
 
 -- "the costs already chosen"
 unfoldable pub spent : List Placed → ℕ
@@ -40,6 +40,6 @@ spent [] = 0
 spent (p ∷ so_far) = spent so_far + p.row.cost
 
 -- "the length of a plan is the largest finish"
-unfoldable pub length-of : List Placed → ℕ
-length-of [] = 0
-length-of (p ∷ so_far) = max (length-of so_far) p.row.finish
+unfoldable pub length_of : List Placed → ℕ
+length_of [] = 0
+length_of (p ∷ so_far) = max (length_of so_far) p.row.finish

@@ -5,8 +5,8 @@ use Prim.Native.String.{String}
 use Prim.Native.String as String
 use Rattle.rules.specs.Labels.{label}
 use Rattle.rules.specs.Rows.{Row, row_of}
-use Rattle.rules.specs.Method.{Name, by-HBCS}
-use Rattle.rules.specs.Answer.{Outcome, plan, refusal, outcome-asked, Answer, planned, refused, answer-asked}
+use Rattle.rules.specs.Method.{Name, by_HBCS}
+use Rattle.rules.specs.Answer.{Outcome, plan, refusal, outcome_asked, Answer, planned, refused, answer_asked}
 
 -- The bytes of a quoted text. Every text quoted in these files is ASCII.
 unfoldable pub bytes : String → List ℕ
@@ -29,33 +29,33 @@ line field [] = field ++ bytes "\n"
 line field (next ∷ fields) = field ++ (bytes " " ++ line next fields)
 
 -- "`plan `, n, length, cost, budget left, [..]; or `no `, number, place"
-unfoldable pub first-line : Answer → List ℕ
-first-line (planned n length cost left) =
+unfoldable pub first_line : Answer → List ℕ
+first_line (planned n length cost left) =
     bytes "plan " ++ line (decimal n) (decimal length ∷ decimal cost ∷ decimal left ∷ [])
-first-line (refused number place) = bytes "no " ++ line (decimal number) (decimal place ∷ [])
+first_line (refused number place) = bytes "no " ++ line (decimal number) (decimal place ∷ [])
 
 -- "then one line per task: label, processor, start, finish, cost"
 unfoldable pub row_line : List ℕ → Row → List ℕ
 row_line name r = line name (decimal r.processor ∷ decimal r.start ∷ decimal r.finish ∷ decimal r.cost ∷ [])
 
 unfoldable pub lines : ℕ → (ℕ → List ℕ) → List ℕ
-lines zero Line-of = []
-lines (suc k) Line-of = lines k Line-of ++ Line-of k
+lines zero Line_of = []
+lines (suc k) Line_of = lines k Line_of ++ Line_of k
 
-unfoldable pub row-lines : List ℕ → Outcome → List ℕ
-row-lines s (plan W rows) = lines W.tasks (λ i. row_line (label s i) (row_of rows i))
-row-lines s (refusal number place) = []
+unfoldable pub row_lines : List ℕ → Outcome → List ℕ
+row_lines s (plan W rows) = lines W.tasks (λ i. row_line (label s i) (row_of rows i))
+row_lines s (refusal number place) = []
 
 -- "The program lends 64 rows": the text of the whole input s, by the method that is asked for.
-unfoldable pub text-asked : Name → List ℕ → List ℕ
-text-asked M s = first-line (answer-asked M s 64) ++ row-lines s (outcome-asked M s 64)
+unfoldable pub text_asked : Name → List ℕ → List ℕ
+text_asked M s = first_line (answer_asked M s 64) ++ row_lines s (outcome_asked M s 64)
 
 abbrev pub text : List ℕ → List ℕ
-text s = text-asked by-HBCS s
+text s = text_asked by_HBCS s
 
 -- "and reads at most 16,384 bytes from standard input": what it writes.
-unfoldable pub program-asked : Name → List ℕ → List ℕ
-program-asked M input = text-asked M (take 16_384 input)
+unfoldable pub program_asked : Name → List ℕ → List ℕ
+program_asked M input = text_asked M (take 16_384 input)
 
 abbrev pub program : List ℕ → List ℕ
-program input = program-asked by-HBCS input
+program input = program_asked by_HBCS input

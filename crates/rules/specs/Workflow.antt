@@ -1,7 +1,7 @@
 -- The workflow that a good request's bytes mean: numbers, and functions of numbers.
 use Rattle.std.specs.Prelude.{ℕ, zero, suc, ◌+◌, ◌*◌, cond, ◌&&◌, List, [], ◌∷◌, ltb, eqb}
-use Rattle.rules.specs.Fields.{Kind, P, Q, M, T, W, E, kind-byte, size, byte, P-price, Q-minimum, M-processor, M-begin, M-end}
-use Rattle.rules.specs.Fields.{W-minutes, E-from, E-to, E-transfer}
+use Rattle.rules.specs.Fields.{Kind, P, Q, M, T, W, E, kind_byte, size, byte, P_price, Q_minimum, M_processor, M_begin, M_end}
+use Rattle.rules.specs.Fields.{W_minutes, E_from, E_to, E_transfer}
 use Rattle.rules.specs.Reading.{Deadline, Request}
 
 -- What a processor is busy with: from `begin` on, up to `end`.
@@ -18,7 +18,7 @@ pub record Workflow : Type 0 where
   pub price : ℕ → ℕ
   pub minimum : ℕ → ℕ
   -- What each processor is busy with at first, and the minute before which no data is ready.
-  pub busy-at-first : ℕ → List Interval
+  pub busy_at_first : ℕ → List Interval
   pub clock : ℕ
   pub minutes : ℕ → ℕ → ℕ
   pub edges : ℕ
@@ -27,49 +27,49 @@ pub record Workflow : Type 0 where
   pub transfer : ℕ → ℕ
 
 -- The kind of the processor record at `at`, and its minimum: "a `P` has minimum 0".
-unfoldable pub processor-kind : List ℕ → ℕ → Kind
-processor-kind s at = cond (eqb (byte s at) (kind-byte Q)) Q P
+unfoldable pub processor_kind : List ℕ → ℕ → Kind
+processor_kind s at = cond (eqb (byte s at) (kind_byte Q)) Q P
 
-unfoldable pub processor-minimum : List ℕ → ℕ → ℕ
-processor-minimum s at = cond (eqb (byte s at) (kind-byte Q)) (Q-minimum s at) 0
+unfoldable pub processor_minimum : List ℕ → ℕ → ℕ
+processor_minimum s at = cond (eqb (byte s at) (kind_byte Q)) (Q_minimum s at) 0
 
 -- Past the first j of the processor records that begin at `at`: each is as long as its kind, so that one walks over those before.
-unfoldable pub past-processors : List ℕ → ℕ → ℕ → ℕ
-past-processors s at zero = at
-past-processors s at (suc j) = let place = past-processors s at j in place + size (processor-kind s place)
+unfoldable pub past_processors : List ℕ → ℕ → ℕ → ℕ
+past_processors s at zero = at
+past_processors s at (suc j) = let place = past_processors s at j in place + size (processor_kind s place)
 
 -- Where the records of a good request stand, in the order that document 01 gives them.
-unfoldable pub processor-place : List ℕ → Request → ℕ → ℕ
-processor-place s r j = past-processors s r.prices-at j
+unfoldable pub processor_place : List ℕ → Request → ℕ → ℕ
+processor_place s r j = past_processors s r.prices_at j
 
-unfoldable pub window-place : Request → ℕ → ℕ
-window-place r e = r.windows-at + e * size M
+unfoldable pub window_place : Request → ℕ → ℕ
+window_place r e = r.windows_at + e * size M
 
-unfoldable pub task-place : Request → ℕ → ℕ
-task-place r i = r.tasks-at + i * (size T + r.processors * size W)
+unfoldable pub task_place : Request → ℕ → ℕ
+task_place r i = r.tasks_at + i * (size T + r.processors * size W)
 
-unfoldable pub minutes-place : Request → ℕ → ℕ → ℕ
-minutes-place r i j = task-place r i + (size T + j * size W)
+unfoldable pub minutes_place : Request → ℕ → ℕ → ℕ
+minutes_place r i j = task_place r i + (size T + j * size W)
 
-unfoldable pub edge-place : Request → ℕ → ℕ
-edge-place r e = r.edges_at + e * size E
+unfoldable pub edge_place : Request → ℕ → ℕ
+edge_place r e = r.edges_at + e * size E
 
 -- The kind that processor j was read in, `P` or `Q`. The workflow has what is in force, and does not tell a `P` from a `Q` with minimum 0.
-unfoldable pub read-in : List ℕ → Request → ℕ → Kind
-read-in s r j = processor-kind s (processor-place s r j)
+unfoldable pub read_in : List ℕ → Request → ℕ → Kind
+read_in s r j = processor_kind s (processor_place s r j)
 
 -- One interval more, which processor `on` is busy with.
-unfoldable pub busy-with : (on : ℕ) → Interval → (ℕ → List Interval) → ℕ → List Interval
-busy-with on v busy j = cond (eqb on j) (v ∷ busy j) (busy j)
+unfoldable pub busy_with : (on : ℕ) → Interval → (ℕ → List Interval) → ℕ → List Interval
+busy_with on v busy j = cond (eqb on j) (v ∷ busy j) (busy j)
 
 -- "`M` is a maintenance window: the processor is down from begin on, up to end": the window at `at`.
-unfoldable pub window-of : List ℕ → ℕ → Interval
-window-of s at = record { begin = M-begin s at; end = M-end s at }
+unfoldable pub window_of : List ℕ → ℕ → Interval
+window_of s at = record { begin = M_begin s at; end = M_end s at }
 
 -- "what j is busy with at first are its windows": of the first k windows.
-unfoldable pub windows-on : List ℕ → Request → ℕ → ℕ → List Interval
-windows-on s r zero = λ j. []
-windows-on s r (suc k) = busy-with (M-processor s (window-place r k)) (window-of s (window-place r k)) (windows-on s r k)
+unfoldable pub windows_on : List ℕ → Request → ℕ → ℕ → List Interval
+windows_on s r zero = λ j. []
+windows_on s r (suc k) = busy_with (M_processor s (window_place r k)) (window_of s (window_place r k)) (windows_on s r k)
 
 -- With the budget and the deadline as they were read; those in force may be others.
 unfoldable pub workflow : List ℕ → Request → Workflow
@@ -79,13 +79,13 @@ workflow s r =
       processors = r.processors;
       budget = r.budget;
       deadline = r.deadline;
-      price = λ j. cond (ltb j r.processors) (P-price s (processor-place s r j)) 0;
-      minimum = λ j. cond (ltb j r.processors) (processor-minimum s (processor-place s r j)) 0;
-      busy-at-first = windows-on s r r.windows;
+      price = λ j. cond (ltb j r.processors) (P_price s (processor_place s r j)) 0;
+      minimum = λ j. cond (ltb j r.processors) (processor_minimum s (processor_place s r j)) 0;
+      busy_at_first = windows_on s r r.windows;
       clock = 0;
-      minutes = λ i j. cond (ltb i r.tasks && ltb j r.processors) (W-minutes s (minutes-place r i j)) 0;
+      minutes = λ i j. cond (ltb i r.tasks && ltb j r.processors) (W_minutes s (minutes_place r i j)) 0;
       edges = r.edges;
-      from = λ e. cond (ltb e r.edges) (E-from s (edge-place r e)) 0;
-      to = λ e. cond (ltb e r.edges) (E-to s (edge-place r e)) 0;
-      transfer = λ e. cond (ltb e r.edges) (E-transfer s (edge-place r e)) 0;
+      from = λ e. cond (ltb e r.edges) (E_from s (edge_place r e)) 0;
+      to = λ e. cond (ltb e r.edges) (E_to s (edge_place r e)) 0;
+      transfer = λ e. cond (ltb e r.edges) (E_transfer s (edge_place r e)) 0;
     }

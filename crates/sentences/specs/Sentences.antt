@@ -4,13 +4,13 @@ use Rattle.rules.specs.Text.{bytes}
 use Rattle.rules.specs.Why.{told}
 
 -- One number told twice: in the line, and in the sentence, which goes on after it.
-abbrev pub one-text : (line sentence rest : List ℕ) → ℕ → List ℕ
-one-text line sentence rest x = told line x ++ (told sentence x ++ rest)
+abbrev pub one_text : (line sentence rest : List ℕ) → ℕ → List ℕ
+one_text line sentence rest x = told line x ++ (told sentence x ++ rest)
 
 -- Two numbers, and the end of the sentence.
-abbrev pub two-end : (first second : List ℕ) → (a b : ℕ) → List ℕ
-two-end first second a b = told first a ++ (told second b ++ bytes ".\n")
+abbrev pub two_end : (first second : List ℕ) → (a b : ℕ) → List ℕ
+two_end first second a b = told first a ++ (told second b ++ bytes ".\n")
 
 -- Two numbers told twice.
-abbrev pub two-text : (line first second : List ℕ) → (a b : ℕ) → List ℕ
-two-text line first second a b = told line a ++ (told (bytes " ") b ++ two-end first second a b)
+abbrev pub two_text : (line first second : List ℕ) → (a b : ℕ) → List ℕ
+two_text line first second a b = told line a ++ (told (bytes " ") b ++ two_end first second a b)

@@ -1,10 +1,10 @@
 // The line and the sentence of a reason, written over a lent buffer.
 ghost use Rattle.std.specs.Prelude.{◌≤◌, length};
-ghost use Rattle.rules.specs.Why.{told, why-text};
+ghost use Rattle.rules.specs.Why.{told, why_text};
 ghost use Rattle.rules.specs.Why as rules;
-ghost use Rattle.reasons.specs.Meant.{meant-why};
+ghost use Rattle.reasons.specs.Meant.{meant_why};
 ghost use Rattle.decimals.specs.Wrote.{Room, Wrote};
-ghost use Rattle.sentences.specs.Sentences.{one-text, two-end, two-text};
+ghost use Rattle.sentences.specs.Sentences.{one_text, two_end, two_text};
 
 use planner::Answer;
 use reasons::Why;
@@ -20,8 +20,8 @@ fn put_told(out: &mut [u8], at: usize, text: &[u8], x: u64) -> usize
 
 // One number, in the line and in the sentence.
 fn put_one(out: &mut [u8], line: &[u8], sentence: &[u8], rest: &[u8], x: u64) -> usize
-    requires { Room out.old 0 (one-text line.now sentence.now rest.now x) }
-    ensures { Wrote out.old 0 (one-text line.now sentence.now rest.now x) out.new result }
+    requires { Room out.old 0 (one_text line.now sentence.now rest.now x) }
+    ensures { Wrote out.old 0 (one_text line.now sentence.now rest.now x) out.new result }
 {
     let lined = put_told(out, 0, line, x);
     let said = put_told(out, lined, sentence, x);
@@ -30,8 +30,8 @@ fn put_one(out: &mut [u8], line: &[u8], sentence: &[u8], rest: &[u8], x: u64) ->
 
 // Two numbers, and the end of the sentence.
 fn put_end(out: &mut [u8], at: usize, first: &[u8], second: &[u8], a: u64, b: u64) -> usize
-    requires { Room out.old at (two-end first.now second.now a b) }
-    ensures { Wrote out.old at (two-end first.now second.now a b) out.new result }
+    requires { Room out.old at (two_end first.now second.now a b) }
+    ensures { Wrote out.old at (two_end first.now second.now a b) out.new result }
 {
     let one = put_told(out, at, first, a);
     let two = put_told(out, one, second, b);
@@ -40,8 +40,8 @@ fn put_end(out: &mut [u8], at: usize, first: &[u8], second: &[u8], a: u64, b: u6
 
 // Two numbers, in the line and in the sentence.
 fn put_two(out: &mut [u8], line: &[u8], first: &[u8], second: &[u8], a: u64, b: u64) -> usize
-    requires { Room out.old 0 (two-text line.now first.now second.now a b) }
-    ensures { Wrote out.old 0 (two-text line.now first.now second.now a b) out.new result }
+    requires { Room out.old 0 (two_text line.now first.now second.now a b) }
+    ensures { Wrote out.old 0 (two_text line.now first.now second.now a b) out.new result }
 {
     let opened = put_told(out, 0, line, a);
     let lined = put_told(out, opened, b" ", b);
@@ -50,8 +50,8 @@ fn put_two(out: &mut [u8], line: &[u8], first: &[u8], second: &[u8], a: u64, b: 
 
 // The row that is in the way.
 fn put_row(out: &mut [u8], task: u64, begin: u64, end: u64) -> usize
-    requires { Room out.old 0 (why-text (rules.beside-row task begin end)) }
-    ensures { Wrote out.old 0 (why-text (rules.beside-row task begin end)) out.new result }
+    requires { Room out.old 0 (why_text (rules.beside_row task begin end)) }
+    ensures { Wrote out.old 0 (why_text (rules.beside_row task begin end)) out.new result }
 {
     let opened = put_told(out, 0, b"row ", task);
     let parted = put_told(out, opened, b" ", begin);
@@ -62,8 +62,8 @@ fn put_row(out: &mut [u8], task: u64, begin: u64, end: u64) -> usize
 
 // The refusal's line, and that there is no plan.
 fn put_refusal(out: &mut [u8], number: u64, place: u64) -> usize
-    requires { Room out.old 0 (why-text (rules.no-plan number place)) }
-    ensures { Wrote out.old 0 (why-text (rules.no-plan number place)) out.new result }
+    requires { Room out.old 0 (why_text (rules.no_plan number place)) }
+    ensures { Wrote out.old 0 (why_text (rules.no_plan number place)) out.new result }
 {
     let lined = lines::put_first_line(out, Answer::Refused { number, place });
     decimals::put_bytes(
@@ -76,7 +76,7 @@ fn put_refusal(out: &mut [u8], number: u64, place: u64) -> usize
 // "a first line for scripts and a sentence for people below it". The longest has 180 bytes: a row's, of numbers of 20 digits.
 pub fn put_why(out: &mut [u8], why: Why) -> usize
     requires { 180 ≤ length out.old }
-    ensures { Wrote out.old 0 (why-text (meant-why why)) out.new result }
+    ensures { Wrote out.old 0 (why_text (meant_why why)) out.new result }
 {
     match why {
         Why::LateData { from, minute } => put_two(

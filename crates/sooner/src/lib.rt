@@ -1,11 +1,11 @@
 // Why a task does not start sooner than in the plan that the page answers with, by a request's bytes.
 ghost use Rattle.std.specs.Prelude.{◌≡◌};
-ghost use Rattle.rules.specs.Method.{by-HBCS};
-ghost use Rattle.rules.specs.Answer.{outcome-by};
-ghost use Rattle.rules.specs.Why.{why-of, why-not};
+ghost use Rattle.rules.specs.Method.{by_HBCS};
+ghost use Rattle.rules.specs.Answer.{outcome_by};
+ghost use Rattle.rules.specs.Why.{why_of, why_not};
 ghost use Rattle.reader.specs.Meaning.{ViewOf};
-ghost use Rattle.planner.specs.Planned.{workflow-by};
-ghost use Rattle.reasons.specs.Meant.{meant-why};
+ghost use Rattle.planner.specs.Planned.{workflow_by};
+ghost use Rattle.reasons.specs.Meant.{meant_why};
 
 use choosing::Method;
 use planner::Answer;
@@ -15,7 +15,7 @@ use reasons::Why;
 // What stands against a start of a task of a good request, by its view: in the plan by HBCS, which is made for it.
 fn why_good(s: &[u8], v: View, task: usize, start: u64) -> Why
     requires { ViewOf s.now v }
-    ensures { meant-why result ≡ why-of (outcome-by by-HBCS (workflow-by by-HBCS s.now v) 64) task start }
+    ensures { meant_why result ≡ why_of (outcome_by by_HBCS (workflow_by by_HBCS s.now v) 64) task start }
 {
     let mut processor_of = [0u64; 64];
     let mut start_of = [0u64; 64];
@@ -44,7 +44,7 @@ fn why_good(s: &[u8], v: View, task: usize, start: u64) -> Why
 
 // What stands against a start of a task of any request: in the plan that the page answers with, or that there is none.
 pub fn why_not(request: &[u8], task: usize, start: u64) -> Why
-    ensures { meant-why result ≡ why-not request.now task start }
+    ensures { meant_why result ≡ why_not request.now task start }
 {
     let reading = reader::read_request(request);
     match reading {

@@ -4,7 +4,7 @@ use Rattle.std.proofs.Common.{◌∙◌, length-set, eq-eqb, ne_eqb, arith, add-
 use Rattle.std.proofs.Math.Decide.{ℕ_discrete}
 use Rattle.rules.specs.Workflow.{Workflow}
 use Rattle.good.specs.Ranges.{InRange}
-use Rattle.laws.specs.Numbers.{below-or-on}
+use Rattle.laws.specs.Numbers.{below_or_on}
 use Rattle.laws.specs.Stores.{stored}
 
 pub record Begins (W : Workflow) (task at : ℕ) : Type 0 where
@@ -19,10 +19,10 @@ pub record BeginsFrom (W : Workflow) (first : ℕ) (begins : List ℕ) : Type 0 
   pub past : (task : ℕ) → W.tasks < task → get_or begins task 0 ≡ 0
 
 -- One task more, on the way back.
-pub begins-from : (W : Workflow) (task at : ℕ) (begins : List ℕ) → length begins ≡ 65 → task < 65 → task ≤ W.tasks
+pub begins_from : (W : Workflow) (task at : ℕ) (begins : List ℕ) → length begins ≡ 65 → task < 65 → task ≤ W.tasks
     → ((t : ℕ) → W.tasks < t → get_or begins t 0 ≡ 0) → Begins W task at
     → ((later : ℕ) → task + 1 ≤ later → later ≤ W.tasks → Begins W later (get_or begins later 0)) → BeginsFrom W task (set begins task at)
-begins-from W task at begins size room is-task past here later =
+begins_from W task at begins size room is_task past here later =
     record {
       size = length-set begins task at ∙ size;
       begin = λ t l below. rw (stored begins task at 0 t (omega arith)) (go t l below (ℕ_discrete task t));
@@ -34,43 +34,43 @@ begins-from W task at begins size room is-task past here later =
     go t l below (no n) = rw (ne_eqb task t n) (later t (omega arith) below)
 
 module _ (W : Workflow) (range : InRange W) where
-  from-rises-by : (d e : ℕ) → e + d < W.edges → W.from e ≤ W.from (e + d)
-  from-rises-by zero e l = rw (add-zero e) (omega arith)
-  from-rises-by (suc d) e l =
-      let onward : W.from e ≤ W.from (e + d) = from-rises-by d e (omega arith) in
-      let step : W.from (e + d) ≤ W.from (e + d + 1) = range.from-rises (e + d) (omega arith) in
+  from_rises_by : (d e : ℕ) → e + d < W.edges → W.from e ≤ W.from (e + d)
+  from_rises_by zero e l = rw (add-zero e) (omega arith)
+  from_rises_by (suc d) e l =
+      let onward : W.from e ≤ W.from (e + d) = from_rises_by d e (omega arith) in
+      let step : W.from (e + d) ≤ W.from (e + d + 1) = range.from_rises (e + d) (omega arith) in
       let place : e + suc d ≡ e + d + 1 = omega arith in
       rw place (omega arith)
 
-  from-rises-to : (e last : ℕ) → e ≤ last → last < W.edges → W.from e ≤ W.from last
-  from-rises-to e last l below =
+  from_rises_to : (e last : ℕ) → e ≤ last → last < W.edges → W.from e ≤ W.from last
+  from_rises_to e last l below =
       let place : e + (last - e) ≡ last = omega arith in
-      rw place at (from-rises-by (last - e) e (omega arith))
+      rw place at (from_rises_by (last - e) e (omega arith))
 
   -- Past the last task there are no edges.
-  pub begins-at-end : Begins W W.tasks W.edges
-  begins-at-end =
-      record { within = omega arith; before = range.from-below; onward = λ e l m. absurd (omega arith) }
+  pub begins_at_end : Begins W W.tasks W.edges
+  begins_at_end =
+      record { within = omega arith; before = range.from_below; onward = λ e l m. absurd (omega arith) }
 
   module _ (task : ℕ) where
     -- Back to an edge of an earlier task, just before `at`.
-    pub begins-after : (last at : ℕ) → last + 1 ≡ at → at ≤ W.edges → W.from last < task
+    pub begins_after : (last at : ℕ) → last + 1 ≡ at → at ≤ W.edges → W.from last < task
         → ((e : ℕ) → at ≤ e → e < W.edges → task ≤ W.from e) → Begins W task at
-    begins-after last at place within earlier onward =
-        record { within = within; before = λ e l. omega (arith, from-rises-to e last (omega arith) (omega arith)); onward = onward }
+    begins_after last at place within earlier onward =
+        record { within = within; before = λ e l. omega (arith, from_rises_to e last (omega arith) (omega arith)); onward = onward }
 
     -- Back to the first edge.
-    pub begins-at-start : ((e : ℕ) → 0 ≤ e → e < W.edges → task ≤ W.from e) → Begins W task 0
-    begins-at-start onward = record { within = omega arith; before = λ e l. absurd (omega arith); onward = onward }
+    pub begins_at_start : ((e : ℕ) → 0 ≤ e → e < W.edges → task ≤ W.from e) → Begins W task 0
+    begins_at_start onward = record { within = omega arith; before = λ e l. absurd (omega arith); onward = onward }
 
     -- One edge more passed, on the way back.
-    pub onward-from : (at next : ℕ) → at + 1 ≡ next → task ≤ W.from at → ((e : ℕ) → next ≤ e → e < W.edges → task ≤ W.from e)
+    pub onward_from : (at next : ℕ) → at + 1 ≡ next → task ≤ W.from at → ((e : ℕ) → next ≤ e → e < W.edges → task ≤ W.from e)
         → (e : ℕ) → at ≤ e → e < W.edges → task ≤ W.from e
-    onward-from at next place here onward e l below =
+    onward_from at next place here onward e l below =
         ⊎_elim (λ (q : e ≤ at). let same : e ≡ at = omega arith in rw same here) (λ (q : at + 1 ≤ e). onward e (omega arith) below)
-        (below-or-on e at)
+        (below_or_on e at)
 
     -- The edges between where two tasks' edges begin.
-    pub from-between : (begin end e : ℕ) → Begins W task begin → Begins W (task + 1) end → begin ≤ e → e < end → W.from e ≡ task
-    from-between begin end e first last l below =
+    pub from_between : (begin end e : ℕ) → Begins W task begin → Begins W (task + 1) end → begin ≤ e → e < end → W.from e ≡ task
+    from_between begin end e first last l below =
         omega (arith, first.onward e l (omega (arith, last.within)), last.before e below)

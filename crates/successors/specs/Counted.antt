@@ -4,8 +4,8 @@ use Rattle.std.proofs.Common.{sym, ap, ◌∙◌, arith, length-set, eq-eqb, ne_
 use Rattle.std.proofs.Math.Decide.{ℕ_discrete}
 use Rattle.rules.specs.Folds.{sum}
 use Rattle.rules.specs.Workflow.{Workflow}
-use Rattle.laws.specs.Folds.{sum-next, sum-at-most-each}
-use Rattle.laws.specs.Stores.{at, stored-holds, repeated}
+use Rattle.laws.specs.Folds.{sum_next, sum_at_most_each}
+use Rattle.laws.specs.Stores.{at, stored_holds, repeated}
 use Rattle.laws.specs.Tests.{cond_either}
 use Rattle.successors.specs.Held.{into}
 
@@ -26,18 +26,18 @@ module _ (W : Workflow) where
         record {
           size = length-set held to _ ∙ counted.size;
           counts =
-              stored-holds held (λ i. sum k (into W i)) _ to _ 0 (omega (arith, counted.size)) counted.counts
-              (λ i. sum-next k (into W i) refl (go i (ℕ_discrete to i) ∙ ap (λ t. sum k (into W i) + cond (eqb t i) 1 0) (sym leads)));
+              stored_holds held (λ i. sum k (into W i)) _ to _ 0 (omega (arith, counted.size)) counted.counts
+              (λ i. sum_next k (into W i) refl (go i (ℕ_discrete to i) ∙ ap (λ t. sum k (into W i) + cond (eqb t i) 1 0) (sym leads)));
         }
       where
         go : (i : ℕ) → Dec (to ≡ i) → cond (eqb to i) (at held to + 1) (sum k (into W i)) ≡ sum k (into W i) + cond (eqb to i) 1 0
         go i (yes e) = rw (eq-eqb to i e, ← e, counted.counts to)
         go i (no n) = rw (ne_eqb to i n) (omega arith)
 
-    pub counted-most : (i : ℕ) → at held i ≤ k
-    counted-most i =
+    pub counted_most : (i : ℕ) → at held i ≤ k
+    counted_most i =
         omega (
           arith,
           counted.counts i,
-          sum-at-most-each k (into W i) 1 (λ e l. cond_either (λ n. n ≤ 1) (eqb (W.to e) i) 1 0 (λ h. omega arith) (λ h. omega arith)),
+          sum_at_most_each k (into W i) 1 (λ e l. cond_either (λ n. n ≤ 1) (eqb (W.to e) i) 1 0 (λ h. omega arith) (λ h. omega arith)),
         )

@@ -2,7 +2,7 @@
 // not placed yet.
 ghost use Rattle.std.specs.Prelude.{◌≡◌, false, ◌+◌, ◌<◌, get_or, replicate};
 ghost use Rattle.reader.specs.Meaning.{ViewOf};
-ghost use Rattle.lookup.specs.Lookup.{workflow-of};
+ghost use Rattle.lookup.specs.Lookup.{workflow_of};
 ghost use Rattle.successors.specs.Begins.{Begins, BeginsFrom};
 ghost use Rattle.successors.specs.Held.{Held, released};
 
@@ -11,8 +11,8 @@ use reader::View;
 // Where the edges of a task begin, which end at `end`.
 fn begin_of(s: &[u8], v: View, task: usize, end: usize) -> usize
     requires view_of { ViewOf s.now v }
-    requires begins { Begins (workflow-of s.now v) (task + 1) end }
-    ensures { Begins (workflow-of s.now v) task result }
+    requires begins { Begins (workflow_of s.now v) (task + 1) end }
+    ensures { Begins (workflow_of s.now v) task result }
 {
     let mut begin = end;
     while 0 < begin {
@@ -28,7 +28,7 @@ fn begin_of(s: &[u8], v: View, task: usize, end: usize) -> usize
 // Where the edges of each task begin; past the last task, where all edges end.
 pub fn begins_all(s: &[u8], v: View) -> [u16; 65]
     requires { ViewOf s.now v }
-    ensures { BeginsFrom (workflow-of s.now v) 0 result }
+    ensures { BeginsFrom (workflow_of s.now v) 0 result }
 {
     let mut begins = [0u16; 65];
     let mut task = v.tasks;
@@ -46,7 +46,7 @@ pub fn begins_all(s: &[u8], v: View) -> [u16; 65]
 pub fn count_all(s: &[u8], v: View, held: &mut [u64; 64])
     requires view_of { ViewOf s.now v }
     requires held_value { held.old ≡ replicate 64 0 }
-    ensures { Held (workflow-of s.now v) (λ i. false) held.new }
+    ensures { Held (workflow_of s.now v) (λ i. false) held.new }
 {
     let mut e = 0;
     while e < v.edges {
@@ -60,8 +60,8 @@ pub fn count_all(s: &[u8], v: View, held: &mut [u64; 64])
 pub fn release(s: &[u8], v: View, begins: &[u16; 65], task: usize, held: &mut [u64; 64])
     requires view_of { ViewOf s.now v }
     requires task_lt_tasks { task < v.tasks }
-    requires begins_from { BeginsFrom (workflow-of s.now v) 0 begins.now }
-    ensures { held.new ≡ released (workflow-of s.now v) (get_or begins.now task 0) (get_or begins.now (task + 1) 0) task held.old }
+    requires begins_from { BeginsFrom (workflow_of s.now v) 0 begins.now }
+    ensures { held.new ≡ released (workflow_of s.now v) (get_or begins.now task 0) (get_or begins.now (task + 1) 0) task held.old }
 {
     held[task] = 1;
     let end = begins[task + 1] as usize;

@@ -12,7 +12,7 @@ unfoldable pub after : List ℕ → List ℕ → List ℕ
 after t out = cond (leb (length t) (length out)) (t ++ drop (length t) out) out
 
 pub record PrintedAs (t out out' : List ℕ) (r : Printed) : Type 0 where
-  pub answer-is : r ≡ printed t (length out)
+  pub answer_is : r ≡ printed t (length out)
   pub after_is : out' ≡ after t out
 
 -- What is printed whole lies inside the buffer.

@@ -7,53 +7,53 @@ use Rattle.std.proofs.Math.ListN.{length}
 use borrow.Author.Tests.{le-leb, lt-leb, leb-true}
 use Rattle.text.specs.declared.Printed.{Printed}
 use Rattle.text.specs.declared.Printed.TheVariants.{Whole, TooSmall}
-use Rattle.decimals.specs.Wrote.{Room, Wrote, wrote-from-start}
+use Rattle.decimals.specs.Wrote.{Room, Wrote, wrote_from_start}
 use Rattle.text.specs.Printed.{printed, after, PrintedAs, FitsIn}
 
 module _ (t out : List ℕ) where
-  pub printed-nothing : {n : ℕ} → n ≡ length t → length out < n → PrintedAs t out out (TooSmall n)
+  pub printed_nothing : {n : ℕ} → n ≡ length t → length out < n → PrintedAs t out out (TooSmall n)
   unfolding printed after
-  printed-nothing {n} long small =
+  printed_nothing {n} long small =
       let short = lt-leb (length t) (length out) (omega arith) in
-      record { answer-is = rw short (ap TooSmall long); after_is = rw short }
+      record { answer_is = rw short (ap TooSmall long); after_is = rw short }
 
-  pub printed-whole : {out' : List ℕ} {end : ℕ} → Room out 0 t → Wrote out 0 t out' end → PrintedAs t out out' (Whole end)
+  pub printed_whole : {out' : List ℕ} {end : ℕ} → Room out 0 t → Wrote out 0 t out' end → PrintedAs t out out' (Whole end)
   unfolding printed after
-  printed-whole {out'} {end} room wrote =
+  printed_whole {out'} {end} room wrote =
       let fits = le-leb (length t) (length out) (omega (arith, room.fits)) in
       let long : end ≡ length t = omega (arith, wrote.ends) in
-      record { answer-is = rw fits (ap Whole long); after_is = rw fits (wrote-from-start wrote) }
+      record { answer_is = rw fits (ap Whole long); after_is = rw fits (wrote_from_start wrote) }
 
 -- A text that stands written over the front of another buffer is printed from there.
 module _ {whole whole' t : List ℕ} {n : ℕ} (wrote : Wrote whole 0 t whole' n) where
   pub front_length : n ≡ length (take n whole')
   front_length = rw wrote.front (omega (arith, wrote.ends))
 
-  pub front-printed : {out out' : List ℕ} {r : Printed} → PrintedAs (take n whole') out out' r → PrintedAs t out out' r
-  front-printed = rw wrote.front (λ printed. printed)
+  pub front_printed : {out out' : List ℕ} {r : Printed} → PrintedAs (take n whole') out out' r → PrintedAs t out out' r
+  front_printed = rw wrote.front (λ printed. printed)
 
 -- Either answer tells how long the text is.
 module _ (t : List ℕ) (room : ℕ) {n : ℕ} where
-  pub whole-printed : Whole n ≡ printed t room → n ≡ length t
+  pub whole_printed : Whole n ≡ printed t room → n ≡ length t
   unfolding printed
-  whole-printed = go (leb (length t) room)
+  whole_printed = go (leb (length t) room)
     where
       go : (b : Bool) → Whole n ≡ cond b (Whole (length t)) (TooSmall (length t)) → n ≡ length t
       go true e = cc
       go false e = let z : ◌≡◌ {A = ℕ} 0 1 = cc in absurd (omega arith)
 
-  pub too-small-printed : TooSmall n ≡ printed t room → n ≡ length t
+  pub too_small_printed : TooSmall n ≡ printed t room → n ≡ length t
   unfolding printed
-  too-small-printed = go (leb (length t) room)
+  too_small_printed = go (leb (length t) room)
     where
       go : (b : Bool) → TooSmall n ≡ cond b (Whole (length t)) (TooSmall (length t)) → n ≡ length t
       go true e = let z : ◌≡◌ {A = ℕ} 0 1 = cc in absurd (omega arith)
       go false e = cc
 
 -- Printing keeps the buffer's length.
-length-after : (t out : List ℕ) → length (after t out) ≡ length out
+length_after : (t out : List ℕ) → length (after t out) ≡ length out
 unfolding after
-length-after t out = go (leb (length t) (length out)) refl
+length_after t out = go (leb (length t) (length out)) refl
   where
     go : (b : Bool) → leb (length t) (length out) ≡ b → length (cond b (t ++ drop (length t) out) out) ≡ length out
     go true fits =
@@ -61,11 +61,11 @@ length-after t out = go (leb (length t) (length out)) refl
     go false fits = refl
 
 -- What is printed whole lies inside the buffer as it is then.
-pub printed-fits : {t out out' : List ℕ} {r : Printed} → PrintedAs t out out' r → FitsIn (length out') r
+pub printed_fits : {t out out' : List ℕ} {r : Printed} → PrintedAs t out out' r → FitsIn (length out') r
 unfolding printed
-printed-fits {t} {out} {out'} p =
-    subst (FitsIn (length out')) (sym p.answer-is)
-    (subst (λ room. FitsIn room (printed t (length out))) (sym (ap length p.after_is ∙ length-after t out)) (go (leb (length t) (length out)) refl))
+printed_fits {t} {out} {out'} p =
+    subst (FitsIn (length out')) (sym p.answer_is)
+    (subst (λ room. FitsIn room (printed t (length out))) (sym (ap length p.after_is ∙ length_after t out)) (go (leb (length t) (length out)) refl))
   where
     go : (b : Bool) → leb (length t) (length out) ≡ b → FitsIn (length out) (cond b (Whole (length t)) (TooSmall (length t)))
     go true fits = leb-true (length t) (length out) fits

@@ -4,6 +4,6 @@ use Rattle.std.proofs.Common.{sym, ◌∙◌}
 use Rattle.text.specs.declared.Printed.{Printed}
 use Rattle.text.specs.Printed.{PrintedAs}
 
-pub printed-settled :
+pub printed_settled :
     (t out : List ℕ) {out₁ out₂ : List ℕ} {a b : Printed} → PrintedAs t out out₁ a → PrintedAs t out out₂ b → (a ≡ b) × (out₁ ≡ out₂)
-printed-settled t out one other = (one.answer-is ∙ sym other.answer-is, one.after_is ∙ sym other.after_is)
+printed_settled t out one other = (one.answer_is ∙ sym other.answer_is, one.after_is ∙ sym other.after_is)

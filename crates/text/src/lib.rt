@@ -1,9 +1,9 @@
 // The printed plan of document 01, the range, and why a task does not start sooner, written into a lent buffer.
 ghost use Rattle.std.specs.Prelude.{◌≤◌, length};
-ghost use Rattle.rules.specs.Text.{text-asked};
-ghost use Rattle.rules.specs.Range.{range-text};
-ghost use Rattle.rules.specs.Why.{why-not, why-text};
-ghost use Rattle.choosing.specs.Named.{meant-method};
+ghost use Rattle.rules.specs.Text.{text_asked};
+ghost use Rattle.rules.specs.Range.{range_text};
+ghost use Rattle.rules.specs.Why.{why_not, why_text};
+ghost use Rattle.choosing.specs.Named.{meant_method};
 ghost use Rattle.reader.specs.Meaning.{ViewOf};
 ghost use Rattle.decimals.specs.Wrote.{Wrote};
 ghost use Rattle.text.specs.Printed.{PrintedAs};
@@ -23,7 +23,7 @@ pub enum Printed {
 fn put_plan(out: &mut [u8], s: &[u8], v: View, method: Method) -> usize
     requires view_of { ViewOf s.now v }
     requires in_bounds { 2_145 ≤ length out.old }
-    ensures { Wrote out.old 0 (text-asked (meant-method method) s.now) out.new result }
+    ensures { Wrote out.old 0 (text_asked (meant_method method) s.now) out.new result }
 {
     let mut processor_of = [0u64; 64];
     let mut start_of = [0u64; 64];
@@ -57,7 +57,7 @@ fn put_plan(out: &mut [u8], s: &[u8], v: View, method: Method) -> usize
 // The text of a request, by a method.
 fn put_text(out: &mut [u8], request: &[u8], method: Method) -> usize
     requires { 2_145 ≤ length out.old }
-    ensures { Wrote out.old 0 (text-asked (meant-method method) request.now) out.new result }
+    ensures { Wrote out.old 0 (text_asked (meant_method method) request.now) out.new result }
 {
     let reading = reader::read_request(request);
     match reading {
@@ -86,7 +86,7 @@ fn print_text(text: &[u8], out: &mut [u8]) -> Printed
 
 // Prints the text of a request by a method: over the front of the buffer, where it has room for it; else the buffer keeps its content.
 pub fn print(request: &[u8], method: Method, out: &mut [u8]) -> Printed
-    ensures { PrintedAs (text-asked (meant-method method) request.now) out.old out.new result }
+    ensures { PrintedAs (text_asked (meant_method method) request.now) out.old out.new result }
 {
     let mut whole = [0u8; 2_145];
     let n = put_text(&mut whole, request, method);
@@ -95,7 +95,7 @@ pub fn print(request: &[u8], method: Method, out: &mut [u8]) -> Printed
 
 // Prints the line of a request's range, as `print` does a text.
 pub fn print_range(request: &[u8], out: &mut [u8]) -> Printed
-    ensures { PrintedAs (range-text request.now) out.old out.new result }
+    ensures { PrintedAs (range_text request.now) out.old out.new result }
 {
     let costs = asked::range(request);
     let mut line = [0u8; 24];
@@ -105,7 +105,7 @@ pub fn print_range(request: &[u8], out: &mut [u8]) -> Printed
 
 // Prints why a task does not start at a minute, as `print` does a text.
 pub fn print_why(request: &[u8], task: usize, start: u64, out: &mut [u8]) -> Printed
-    ensures { PrintedAs (why-text (why-not request.now task start)) out.old out.new result }
+    ensures { PrintedAs (why_text (why_not request.now task start)) out.old out.new result }
 {
     let why = sooner::why_not(request, task, start);
     let mut said = [0u8; 180];

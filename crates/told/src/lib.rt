@@ -1,9 +1,9 @@
 // What is told in structs of numbers that C can read: answers, costs, reasons, a deadline and a share.
 ghost use Rattle.std.specs.Prelude.{◌≡◌};
-ghost use Rattle.reader.specs.Meaning.{meant-deadline, meant-share};
-ghost use Rattle.planner.specs.Planned.{meant-answer, meant-costs};
-ghost use Rattle.reasons.specs.Meant.{meant-why};
-ghost use Rattle.told.specs.Told.{told-deadline, told-given, told-share, told-answer, told-costs, told-reason, told-why};
+ghost use Rattle.reader.specs.Meaning.{meant_deadline, meant_share};
+ghost use Rattle.planner.specs.Planned.{meant_answer, meant_costs};
+ghost use Rattle.reasons.specs.Meant.{meant_why};
+ghost use Rattle.told.specs.Told.{told_deadline, told_given, told_share, told_answer, told_costs, told_reason, told_why};
 
 use planner::{Answer, Costs};
 use reader::{Deadline, Share};
@@ -11,7 +11,7 @@ use reasons::Why;
 
 // The minutes of a deadline; 0 for none.
 pub fn deadline_minutes(deadline: Deadline) -> u64
-    ensures { result ≡ told-deadline (meant-deadline deadline) }
+    ensures { result ≡ told_deadline (meant_deadline deadline) }
 {
     match deadline {
         Deadline::Without => 0,
@@ -21,7 +21,7 @@ pub fn deadline_minutes(deadline: Deadline) -> u64
 
 // 1 for a share, 0 for none.
 pub fn is_given(share: Share) -> u64
-    ensures { result ≡ told-given (meant-share share) }
+    ensures { result ≡ told_given (meant_share share) }
 {
     match share {
         Share::Without => 0,
@@ -31,7 +31,7 @@ pub fn is_given(share: Share) -> u64
 
 // The thousandths of a share; 0 for none.
 pub fn thousandths(share: Share) -> u64
-    ensures { result ≡ told-share (meant-share share) }
+    ensures { result ≡ told_share (meant_share share) }
 {
     match share {
         Share::Without => 0,
@@ -54,7 +54,7 @@ pub struct ZabgurinAnswer {
 
 // The numbers of an answer.
 pub fn answer_told(answer: Answer) -> ZabgurinAnswer
-    ensures { result ≡ told-answer (meant-answer answer) }
+    ensures { result ≡ told_answer (meant_answer answer) }
 {
     match answer {
         Answer::Planned {
@@ -93,7 +93,7 @@ pub struct ZabgurinCosts {
 
 // The numbers of the costs.
 pub fn costs_told(costs: Costs) -> ZabgurinCosts
-    ensures { result ≡ told-costs (meant-costs costs) }
+    ensures { result ≡ told_costs (meant_costs costs) }
 {
     match costs {
         Costs::Between { cheapest, heft } => ZabgurinCosts {
@@ -126,7 +126,7 @@ pub struct ZabgurinWhy {
 }
 
 fn reason_told(reason: u64, task: u64, begin: u64, end: u64) -> ZabgurinWhy
-    ensures { result ≡ told-reason reason task begin end }
+    ensures { result ≡ told_reason reason task begin end }
 {
     ZabgurinWhy {
         number: 0,
@@ -140,7 +140,7 @@ fn reason_told(reason: u64, task: u64, begin: u64, end: u64) -> ZabgurinWhy
 
 // The numbers of a reason.
 pub fn why_told(why: Why) -> ZabgurinWhy
-    ensures { result ≡ told-why (meant-why why) }
+    ensures { result ≡ told_why (meant_why why) }
 {
     match why {
         Why::LateData { from, minute } => reason_told(1, from, minute, 0),

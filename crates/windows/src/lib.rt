@@ -1,7 +1,7 @@
 // Reads one maintenance window of a request.
 ghost use Rattle.std.specs.Prelude.{◌≡◌, ◌+◌, ◌*◌, ◌≤◌, [], ◌∷◌, length};
-ghost use Rattle.rules.specs.Fields.{M, M-processor, M-begin};
-ghost use Rattle.rules.specs.Records.{unless, first-fault, follows, above, apart, window-ranges, window-at};
+ghost use Rattle.rules.specs.Fields.{M, M_processor, M_begin};
+ghost use Rattle.rules.specs.Records.{unless, first_fault, follows, above, apart, window_ranges, window_at};
 ghost use Rattle.records.specs.Meaning.{meant};
 
 use records::{Cursor, Record, RecordAnswer};
@@ -10,7 +10,7 @@ use records::{Cursor, Record, RecordAnswer};
 // processor, ends; else 0. The first has none before it.
 fn order_fault(s: &[u8], at: usize, k: usize) -> u64
     requires { (at + 10 ≤ length s.now) × (k * 10 ≤ at) }
-    ensures { result ≡ first-fault (unless (follows M (above (M-processor s.now) (M-begin s.now)) at k) 3 ∷ unless (follows M (apart s.now) at k) 3 ∷ []) }
+    ensures { result ≡ first_fault (unless (follows M (above (M_processor s.now) (M_begin s.now)) at k) 3 ∷ unless (follows M (apart s.now) at k) 3 ∷ []) }
 {
     if k == 0 {
         return 0;
@@ -37,7 +37,7 @@ fn order_fault(s: &[u8], at: usize, k: usize) -> u64
 // fifth; else 0.
 fn range_fault(s: &[u8], at: usize, m: usize, k: usize) -> u64
     requires { (at + 10 ≤ length s.now) × (k * 10 ≤ at) }
-    ensures { result ≡ first-fault (window-ranges s.now m at k) }
+    ensures { result ≡ first_fault (window_ranges s.now m at k) }
 {
     let processor = fields::field(s, at, 1);
     let begin = fields::four_bytes(s, at, 2);
@@ -64,7 +64,7 @@ fn range_fault(s: &[u8], at: usize, m: usize, k: usize) -> u64
 // `M` with k windows right before it: in rising order, apart, in range, at most four of a processor.
 pub fn read_window(s: &[u8], c: Cursor, m: usize, k: usize) -> RecordAnswer
     requires { k * 10 ≤ c.at }
-    ensures { meant result ≡ window-at s.now m c.at k }
+    ensures { meant result ≡ window_at s.now m c.at k }
 {
     let at = c.at;
     let fault = fields::opening_fault(s, at, b'M', 10);

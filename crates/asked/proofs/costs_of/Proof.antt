@@ -1,7 +1,7 @@
 -- By the cases of both answers.
 use borrow.Author.Rules.{rules}
-use Rattle.rules.specs.Range.{range-of}
-use Rattle.planner.specs.Planned.{meant-answer, meant-costs}
+use Rattle.rules.specs.Range.{range_of}
+use Rattle.planner.specs.Planned.{meant_answer, meant_costs}
 use Rattle.asked.proofs.costs_of.Statement.{statement}
 use Rattle.asked.proofs.costs_of.Tie as tie
 
@@ -18,19 +18,19 @@ enum-known-cheapest-2 : tie.Need-enum-known-cheapest-2
 enum-known-cheapest-2 c = search rules
 
 returns : tie.Need-returns
-unfolding range-of meant-answer meant-costs
+unfolding range_of meant_answer meant_costs
 returns c = rw (c.before.heft.given.1, c.before.before.before.before.cheapest.given.1)
 
 returns-2 : tie.Need-returns-2
-unfolding range-of meant-answer meant-costs
+unfolding range_of meant_answer meant_costs
 returns-2 c = rw (c.before.heft2.given.1, c.before.before.before.before.cheapest.given.1)
 
 returns-3 : tie.Need-returns-3
-unfolding range-of meant-answer meant-costs
+unfolding range_of meant_answer meant_costs
 returns-3 c = rw c.before.cheapest2.given.1
 
-pub costs-of-spec : {M : Type 1} → statement M
-costs-of-spec =
+pub costs_of_spec : {M : Type 1} → statement M
+costs_of_spec =
     tie.close
     (tie.spec
     enum-known-cheapest

@@ -1,8 +1,8 @@
 -- The costs of the two answers.
 use mathlib.Core.Path.{ap₂, ◌∙◌}
 use borrow.Author.Rules.{rules}
-use Rattle.rules.specs.Range.{range-of, range}
-use Rattle.choosing.specs.Named.{meant-method}
+use Rattle.rules.specs.Range.{range_of, range}
+use Rattle.choosing.specs.Named.{meant_method}
 use Rattle.asked.proofs.range.Statement.{statement}
 use Rattle.asked.proofs.range.Tie as tie
 
@@ -16,8 +16,8 @@ costs-of-requires : tie.Need-costs-of-requires
 costs-of-requires c κs = search rules
 
 returns : tie.Need-returns
-unfolding range meant-method
-returns c = c.costs-of.ensures ∙ ap₂ range-of c.before.before.answered.ensures c.before.answered2.ensures
+unfolding range meant_method
+returns c = c.costs-of.ensures ∙ ap₂ range_of c.before.before.answered.ensures c.before.answered2.ensures
 
-pub range-spec : {M : Type 1} → statement M
-range-spec = tie.close (tie.spec answered-requires answered-requires-2 costs-of-requires returns)
+pub range_spec : {M : Type 1} → statement M
+range_spec = tie.close (tie.spec answered-requires answered-requires-2 costs-of-requires returns)

@@ -3,7 +3,7 @@ use Prim.Native.Nat.{◌-◌, ◌≤◌}
 use mathlib.Core.Path.{◌≡◌, refl, ap, ◌∙◌}
 use lib.ListN.{length, set}
 use Rattle.rules.specs.Folds.{listing}
-use Rattle.laws.specs.Overwritten.{overwritten, length-overwritten, overwritten-next}
+use Rattle.laws.specs.Overwritten.{overwritten, length_overwritten, overwritten_next}
 use Rattle.laws.specs.Stores.{at}
 use borrow.Author.Rules.{rules}
 use native.Mathlib.Omega.{arith}
@@ -33,7 +33,7 @@ slice-write-buffer : tie.Need-slice-write-buffer invariant-loop decreases-loop
 slice-write-buffer c =
     let loop = c.before.before.loop in
     let a = c.before.before.before.args in
-    omega (arith, ap length loop.invariant.1, length-overwritten loop.i (at a.column.now) a.buffer.now (omega arith))
+    omega (arith, ap length loop.invariant.1, length_overwritten loop.i (at a.column.now) a.buffer.now (omega arith))
 
 add-i : tie.Need-overflow-add-i invariant-loop decreases-loop
 add-i c = omega arith
@@ -47,14 +47,14 @@ loop-again c =
     let a = c.before.before.before.args in (
       omega arith,
       ap (λ xs. set xs loop.i (at a.column.now loop.i)) loop.invariant.1
-          ∙ overwritten-next loop.i (at a.column.now) a.buffer.now (omega arith),
+          ∙ overwritten_next loop.i (at a.column.now) a.buffer.now (omega arith),
     )
 
 same_length : tie.Need-same-length invariant-loop decreases-loop
 same_length c =
     let loop = c.before.loop in
     let a = c.before.before.args in
-    ap length loop.invariant.1 ∙ length-overwritten loop.i (at a.column.now) a.buffer.now (omega arith)
+    ap length loop.invariant.1 ∙ length_overwritten loop.i (at a.column.now) a.buffer.now (omega arith)
 
 returns : tie.Need-returns invariant-loop decreases-loop
 returns c =

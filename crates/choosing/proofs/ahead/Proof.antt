@@ -1,13 +1,13 @@
 -- Uneven standings decide; where they are even, the finishes do.
-use Rattle.choosing.specs.LeadingLaws.{ahead-even, ahead-uneven}
+use Rattle.choosing.specs.LeadingLaws.{ahead_even, ahead_uneven}
 use Rattle.choosing.proofs.ahead.Statement.{statement}
 use Rattle.choosing.proofs.ahead.Tie as tie
 
 returns : tie.Need-returns
-returns c = ahead-even _ _ _ c.before.if1.true
+returns c = ahead_even _ _ _ c.before.if1.true
 
 returns-2 : tie.Need-returns-2
-returns-2 c = ahead-uneven _ _ _ c.before.if1.false
+returns-2 c = ahead_uneven _ _ _ c.before.if1.false
 
-pub ahead-spec : {M : Type 1} → statement M
-ahead-spec = tie.close (tie.spec returns returns-2)
+pub ahead_spec : {M : Type 1} → statement M
+ahead_spec = tie.close (tie.spec returns returns-2)

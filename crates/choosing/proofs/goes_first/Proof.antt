@@ -1,5 +1,5 @@
 -- Uneven figures decide; where they are even, the others do.
-use Rattle.choosing.specs.LowestLaws.{lower-even, lower-uneven}
+use Rattle.choosing.specs.LowestLaws.{lower_even, lower_uneven}
 use borrow.Author.Rules.{rules}
 use Rattle.choosing.proofs.goes_first.Statement.{statement}
 use Rattle.choosing.proofs.goes_first.Tie as tie
@@ -29,7 +29,7 @@ element-copy-out-result-2 : tie.Need-element-copy-out-result-2
 element-copy-out-result-2 c = search rules
 
 returns : tie.Need-returns
-returns c = lower-even _ _ _ _ c.before.before.if1.true
+returns c = lower_even _ _ _ _ c.before.before.if1.true
 
 mul-result-3 : tie.Need-overflow-mul-result-3
 mul-result-3 c = search rules
@@ -44,10 +44,10 @@ element-copy-out-result-4 : tie.Need-element-copy-out-result-4
 element-copy-out-result-4 c = search rules
 
 returns-2 : tie.Need-returns-2
-returns-2 c = lower-uneven _ _ _ _ c.before.before.if1.false
+returns-2 c = lower_uneven _ _ _ _ c.before.before.if1.false
 
-pub goes-first-spec : {M : Type 1} → statement M
-goes-first-spec =
+pub goes_first_spec : {M : Type 1} → statement M
+goes_first_spec =
     tie.close
     (tie.spec
     mul-if1

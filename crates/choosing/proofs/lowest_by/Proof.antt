@@ -4,7 +4,7 @@ use mathlib.Core.Path.{◌≡◌, refl, ap, ◌∙◌}
 use mathlib.Core.Bool.{cond}
 use Rattle.rules.specs.Orders.{lower, tie, first}
 use Rattle.laws.specs.Stores.{at}
-use Rattle.laws.specs.First.{first-at-most, first_next}
+use Rattle.laws.specs.First.{first_at_most, first_next}
 use borrow.Author.Rules.{rules}
 use native.Mathlib.Omega.{arith}
 use Rattle.choosing.proofs.lowest_by.Statement.{statement}
@@ -24,7 +24,7 @@ goes-first-requires : tie.Need-goes-first-requires invariant-loop decreases-loop
 goes-first-requires c κs =
     let a = c.before.before.args in
     let loop = c.before.loop in
-    (omega arith, omega (arith, loop.invariant.1, first-at-most loop.i (lower (at a.by.now) (lower (at a.then.now) tie))))
+    (omega arith, omega (arith, loop.invariant.1, first_at_most loop.i (lower (at a.by.now) (lower (at a.then.now) tie))))
 
 either-number-requires : tie.Need-either-number-requires invariant-loop decreases-loop
 either-number-requires c κs = search rules
@@ -48,8 +48,8 @@ returns c =
     let passed : loop.i ≡ a.m = omega arith in
     rw passed at loop.invariant.1
 
-pub lowest-by-spec : {M : Type 1} → statement M
-lowest-by-spec =
+pub lowest_by_spec : {M : Type 1} → statement M
+lowest_by_spec =
     tie.close
     (tie.spec
     invariant-loop

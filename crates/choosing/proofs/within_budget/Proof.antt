@@ -3,8 +3,8 @@ use Prim.Native.Nat.{◌≤◌, ◌-◌}
 use mathlib.Core.Path.{◌≡◌, refl, ◌∙◌}
 use Rattle.choosing.specs.Asked.{asked}
 use Rattle.choosing.specs.Leading.{Leads}
-use Rattle.choosing.specs.FiguredLaws.{figures-in-range, standing-is}
-use Rattle.choosing.specs.LeadingLaws.{leads-first, leads-next, leads-all}
+use Rattle.choosing.specs.FiguredLaws.{figures_in_range, standing_is}
+use Rattle.choosing.specs.LeadingLaws.{leads_first, leads_next, leads_all}
 use borrow.Author.Rules.{rules}
 use native.Mathlib.Omega.{arith}
 use Rattle.choosing.proofs.within_budget.Statement.{statement}
@@ -20,10 +20,10 @@ figures-of-requires : tie.Need-figures-of-requires invariant-loop decreases-loop
 figures-of-requires c κs = search rules
 
 weights-of-requires : tie.Need-weights-of-requires invariant-loop decreases-loop
-weights-of-requires c κs = figures-in-range _ _ c.figures-of.ensures c.before.requires
+weights-of-requires c κs = figures_in_range _ _ c.figures-of.ensures c.before.requires
 
 loop-holds : tie.Need-loop-init invariant-loop decreases-loop
-loop-holds c = (omega arith, leads-first _ _ refl refl refl)
+loop-holds c = (omega arith, leads_first _ _ refl refl refl)
 
 mul-cost : tie.Need-overflow-mul-cost invariant-loop decreases-loop
 mul-cost c = search rules
@@ -41,7 +41,7 @@ standing-requires : tie.Need-standing-requires invariant-loop decreases-loop
 standing-requires c κs =
     let figures-of = c.before.before.before.before.before.figures-of in
     let pre = c.before.before.before.before.before.before.requires in (
-      figures-in-range _ _ figures-of.ensures pre,
+      figures_in_range _ _ figures-of.ensures pre,
       (c.before.before.before.before.weights-of.ensures, pre.costs _ c.before.before.loop-test.true),
     )
 
@@ -58,8 +58,8 @@ loop-again : tie.Need-loop-preserved invariant-loop decreases-loop
 loop-again c =
     let loop = c.before.before.before.before.before.loop in
     let figures-of = c.before.before.before.before.before.before.before.figures-of in
-    let stands = c.before.standing.ensures ∙ standing-is _ _ figures-of.ensures loop.j in
-    (omega arith, leads-next _ _ _ loop.invariant.1 stands c.led.ensures)
+    let stands = c.before.standing.ensures ∙ standing_is _ _ figures-of.ensures loop.j in
+    (omega arith, leads_next _ _ _ loop.invariant.1 stands c.led.ensures)
 
 returns : tie.Need-returns invariant-loop decreases-loop
 returns c =
@@ -67,10 +67,10 @@ returns c =
     let loop = c.before.loop in
     let question = asked a.m a.costs.now a.finishes.now a.rb a.rcb in
     let passed : loop.j ≡ a.m = omega arith in
-    leads-all question loop.leader (rw passed at loop.invariant.1)
+    leads_all question loop.leader (rw passed at loop.invariant.1)
 
-pub within-budget-spec : {M : Type 1} → statement M
-within-budget-spec =
+pub within_budget_spec : {M : Type 1} → statement M
+within_budget_spec =
     tie.close
     (tie.spec
     invariant-loop

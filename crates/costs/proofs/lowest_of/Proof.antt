@@ -2,7 +2,7 @@
 use Prim.Native.Nat.{◌≤◌, ◌-◌}
 use mathlib.Core.Path.{◌≡◌}
 use Rattle.rules.specs.Folds.{lowest}
-use Rattle.laws.specs.Folds.{lowest-next}
+use Rattle.laws.specs.Folds.{lowest_next}
 use Rattle.laws.specs.Stores.{at}
 use borrow.Author.Rules.{rules}
 use native.Mathlib.Omega.{arith}
@@ -40,7 +40,7 @@ loop-less c = search rules
 loop-again : tie.Need-loop-preserved invariant-loop decreases-loop
 loop-again c =
     let loop = c.before.before.before.loop in
-    (omega arith, lowest-next loop.j _ loop.invariant.1 c.smaller.ensures)
+    (omega arith, lowest_next loop.j _ loop.invariant.1 c.smaller.ensures)
 
 returns : tie.Need-returns invariant-loop decreases-loop
 returns c =
@@ -49,8 +49,8 @@ returns c =
     let passed : loop.j ≡ a.m = omega arith in
     rw passed at loop.invariant.1
 
-pub lowest-of-spec : {M : Type 1} → statement M
-lowest-of-spec =
+pub lowest_of_spec : {M : Type 1} → statement M
+lowest_of_spec =
     tie.close
     (tie.spec
     invariant-loop

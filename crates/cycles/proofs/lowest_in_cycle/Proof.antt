@@ -4,17 +4,17 @@ use Prim.Native.Nat.{ℕ, ◌-◌, ◌≤◌, ◌<◌}
 use mathlib.Core.Bool.{true, true≢false}
 use borrow.Author.Count.{below_more}
 use Rattle.rules.specs.Workflow.{workflow}
-use Rattle.rules.specs.Cycle.{back-to-itself}
-use Rattle.lookup.specs.Lookup.{workflow-of}
-use Rattle.lookup.specs.Views.{view-in-range}
-use Rattle.cycles.specs.MarkedLaws.{first-is-lowest, some-before-last}
+use Rattle.rules.specs.Cycle.{back_to_itself}
+use Rattle.lookup.specs.Lookup.{workflow_of}
+use Rattle.lookup.specs.Views.{view_in_range}
+use Rattle.cycles.specs.MarkedLaws.{first_is_lowest, some_before_last}
 use native.Mathlib.Omega.{arith}
 use Rattle.cycles.proofs.lowest_in_cycle.Statement.{statement}
 use Rattle.cycles.proofs.lowest_in_cycle.Tie as tie
 
 abbrev invariant-loop : tie.invariant-loop
 invariant-loop s v task₀ task =
-    (task ≤ v.tasks) × ((k : ℕ) → k < task → back-to-itself (workflow-of s v) k ≡ true → ⊥)
+    (task ≤ v.tasks) × ((k : ℕ) → k < task → back_to_itself (workflow_of s v) k ≡ true → ⊥)
 
 abbrev decreases-loop : tie.decreases-loop
 decreases-loop s v task₀ task = v.tasks - task
@@ -30,12 +30,12 @@ returns c =
     let pre = c.before.before.before.before.before.before.requires in
     let a = c.before.before.before.before.before.before.args in
     let loop = c.before.before.before.before.loop in
-    let leads-back = c.before.leads-back in
+    let leads_back = c.before.leads_back in
     let if2 = c.if2 in
-    let W = workflow-of a.s.now a.v in
-    let range = view-in-range a.s.now a.v pre.0 in
-    first-is-lowest W range pre.1 loop.task loop.invariant.1
-    (sym if2.true ∙ leads-back.ensures)
+    let W = workflow_of a.s.now a.v in
+    let range = view_in_range a.s.now a.v pre.0 in
+    first_is_lowest W range pre.1 loop.task loop.invariant.1
+    (sym if2.true ∙ leads_back.ensures)
 
 add-task : tie.Need-overflow-add-task invariant-loop decreases-loop
 add-task c = omega arith
@@ -46,9 +46,9 @@ loop-less c = omega arith
 loop-again : tie.Need-loop-preserved invariant-loop decreases-loop
 loop-again c =
     let loop = c.before.before.before.before.loop in
-    let leads-back = c.before.leads-back in
+    let leads_back = c.before.leads_back in
     let if2 = c.if2 in
-    let other = sym leads-back.ensures ∙ if2.false in
+    let other = sym leads_back.ensures ∙ if2.false in
     (omega arith, below_more _ _ loop.invariant.1 (λ back. true≢false (sym back ∙ other)))
 
 returns-2 : tie.Need-returns-2 invariant-loop decreases-loop
@@ -57,16 +57,16 @@ returns-2 c =
     let pre = c.before.before.before.before.requires in
     let a = c.before.before.before.before.args in
     let loop = c.before.before.loop in
-    let W = workflow-of a.s.now a.v in
-    let range = view-in-range a.s.now a.v pre.0 in
+    let W = workflow_of a.s.now a.v in
+    let range = view_in_range a.s.now a.v pre.0 in
     absurd
     (omega (
       arith,
-      some-before-last W range pre.1 loop.task loop.invariant.1,
+      some_before_last W range pre.1 loop.task loop.invariant.1,
     ))
 
-pub lowest-in-cycle-spec : {M : Type 1} → statement M
-lowest-in-cycle-spec =
+pub lowest_in_cycle_spec : {M : Type 1} → statement M
+lowest_in_cycle_spec =
     tie.close
     (tie.spec
     invariant-loop

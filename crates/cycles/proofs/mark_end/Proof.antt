@@ -4,11 +4,11 @@ use Prim.Native.Nat.{ℕ}
 use mathlib.Core.Bool.{◌||◌, true≢false}
 use lib.Dec.{eqb}
 use Rattle.rules.specs.Workflow.{workflow}
-use Rattle.lookup.specs.Lookup.{workflow-of}
-use Rattle.lookup.specs.Views.{view-in-range}
+use Rattle.lookup.specs.Lookup.{workflow_of}
+use Rattle.lookup.specs.Views.{view_in_range}
 use Rattle.laws.specs.Turned.{turned_none}
 use Rattle.cycles.specs.Marked.{marked}
-use Rattle.cycles.specs.MarkedLaws.{mark-turned, some_left}
+use Rattle.cycles.specs.MarkedLaws.{mark_turned, some_left}
 use native.Mathlib.Omega.{arith}
 use borrow.Author.Rules.{rules}
 use Rattle.cycles.proofs.mark_end.Statement.{statement}
@@ -23,7 +23,7 @@ element-copy-out-if1 c =
     let pre = c.before.before.requires in
     let a = c.before.before.args in
     let to = c.to in
-    omega (arith, to.ensures.1, (view-in-range a.s.now a.v pre.0).tasks-in)
+    omega (arith, to.ensures.1, (view_in_range a.s.now a.v pre.0).tasks_in)
 
 returns : tie.Need-returns
 returns c =
@@ -42,7 +42,7 @@ reached-requires c κs =
     let pre = c.before.before.before.before.before.before.requires in
     let a = c.before.before.before.before.before.before.args in
     let from = c.from in
-    omega (arith, from.ensures.1, (view-in-range a.s.now a.v pre.0).tasks-in)
+    omega (arith, from.ensures.1, (view_in_range a.s.now a.v pre.0).tasks_in)
 
 element-write-marks : tie.Need-element-write-marks
 unfolding workflow
@@ -50,7 +50,7 @@ element-write-marks c =
     let pre = c.before.before.before.before.before.before.before.before.requires in
     let a = c.before.before.before.before.before.before.before.before.args in
     let to = c.before.before.before.before.before.before.to in
-    omega (arith, to.ensures.1, (view-in-range a.s.now a.v pre.0).tasks-in)
+    omega (arith, to.ensures.1, (view_in_range a.s.now a.v pre.0).tasks_in)
 
 sub-result : tie.Need-overflow-sub-result
 unfolding workflow
@@ -59,8 +59,8 @@ sub-result c =
     let a = c.before.before.before.before.before.before.before.before.args in
     let to = c.before.before.before.before.before.before.to in
     let if1 = c.before.before.before.before.if1 in
-    let W = workflow-of a.s.now a.v in
-    let range = view-in-range a.s.now a.v pre.0 in
+    let W = workflow_of a.s.now a.v in
+    let range = view_in_range a.s.now a.v pre.0 in
     let free = ap (marked a.marks.now) (sym to.ensures.0) ∙ if1.false in
     some_left W range a.start a.marks.now a.left a.edge pre.1.1 pre.1.0 free
 
@@ -74,13 +74,13 @@ returns-2 c =
     let from = c.before.before.from in
     let reached = c.before.reached in
     let if2 = c.if2 in
-    let W = workflow-of a.s.now a.v in
-    let range = view-in-range a.s.now a.v pre.0 in
+    let W = workflow_of a.s.now a.v in
+    let range = view_in_range a.s.now a.v pre.0 in
     let free = ap (marked a.marks.now) (sym to.ensures.0) ∙ if1.false in
     let there = ap (λ (x : ℕ). eqb x a.start || marked a.marks.now x) (sym from.ensures.0) in
     let is-reached = there ∙ sym reached.ensures ∙ if2.true in
     rw to.ensures.0
-    (mark-turned W range a.start a.marks.now a.left a.edge pre.1.1 pre.1.0 free is-reached)
+    (mark_turned W range a.start a.marks.now a.left a.edge pre.1.1 pre.1.0 free is-reached)
 
 returns-3 : tie.Need-returns-3
 returns-3 c =
@@ -93,8 +93,8 @@ returns-3 c =
     let other = there ∙ sym reached.ensures ∙ if2.false in
     turned_none pre.1.1 (λ h. absurd (true≢false (sym h ∙ other)))
 
-pub mark-end-spec : {M : Type 1} → statement M
-mark-end-spec =
+pub mark_end_spec : {M : Type 1} → statement M
+mark_end_spec =
     tie.close
     (tie.spec
     to-requires

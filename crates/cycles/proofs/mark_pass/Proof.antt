@@ -1,18 +1,18 @@
 -- Fewer are left, or nothing has changed and all edges passed are followed.
 use mathlib.Core.Path.{◌≡◌}
 use Prim.Native.Nat.{◌-◌, ◌≤◌}
-use Rattle.lookup.specs.Lookup.{workflow-of}
-use Rattle.lookup.specs.Views.{view-in-range}
-use Rattle.laws.specs.Turned.{Turned, turned_none, turned-next}
+use Rattle.lookup.specs.Lookup.{workflow_of}
+use Rattle.lookup.specs.Views.{view_in_range}
+use Rattle.laws.specs.Turned.{Turned, turned_none, turned_next}
 use Rattle.cycles.specs.Marked.{MarkedSoFar, AllFollowed}
-use Rattle.cycles.specs.MarkedLaws.{followed-more}
+use Rattle.cycles.specs.MarkedLaws.{followed_more}
 use native.Mathlib.Omega.{arith}
 use Rattle.cycles.proofs.mark_pass.Statement.{statement}
 use Rattle.cycles.proofs.mark_pass.Tie as tie
 
 abbrev invariant-loop : tie.invariant-loop
 invariant-loop s v marks₀ start left now-left₀ e₀ marks now-left e =
-    (e ≤ v.edges) × Turned (MarkedSoFar (workflow-of s v) start) (AllFollowed (workflow-of s v) start e) marks₀ marks left now-left
+    (e ≤ v.edges) × Turned (MarkedSoFar (workflow_of s v) start) (AllFollowed (workflow_of s v) start e) marks₀ marks left now-left
 
 abbrev decreases-loop : tie.decreases-loop
 decreases-loop s v marks₀ start left now-left₀ e₀ marks now-left e = v.edges - e
@@ -38,11 +38,11 @@ loop-again c =
     let a = c.before.before.before.before.before.before.args in
     let loop = c.before.before.before.before.loop in
     let mark-end = c.mark-end in
-    let W = workflow-of a.s.now a.v in
-    let range = view-in-range a.s.now a.v pre.0 in
+    let W = workflow_of a.s.now a.v in
+    let range = view_in_range a.s.now a.v pre.0 in
     let e = loop.e in (
       omega arith,
-      turned-next (followed-more W range a.start e) loop.invariant.1 mark-end.ensures,
+      turned_next (followed_more W range a.start e) loop.invariant.1 mark-end.ensures,
     )
 
 returns : tie.Need-returns invariant-loop decreases-loop
@@ -52,7 +52,7 @@ returns c =
     let passed : loop.e ≡ a.v.edges = omega arith in
     rw passed at loop.invariant.1
 
-pub mark-pass-spec : {M : Type 1} → statement M
-mark-pass-spec =
+pub mark_pass_spec : {M : Type 1} → statement M
+mark_pass_spec =
     tie.close
     (tie.spec invariant-loop decreases-loop loop-holds mark-end-requires add-e loop-less loop-again returns)

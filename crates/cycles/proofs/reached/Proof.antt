@@ -13,5 +13,5 @@ returns c = rw (eq-eqb _ _ c.if1.true)
 returns-2 : tie.Need-returns-2
 returns-2 c = rw (ne_eqb _ _ c.before.if1.false)
 
-pub reached-spec : {M : Type 1} → statement M
-reached-spec = tie.close (tie.spec element-copy-out-result returns returns-2)
+pub reached_spec : {M : Type 1} → statement M
+reached_spec = tie.close (tie.spec element-copy-out-result returns returns-2)

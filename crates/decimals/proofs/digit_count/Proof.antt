@@ -4,7 +4,7 @@ use mathlib.Core.Path.{◌≡◌, ap}
 use native.Mathlib.Omega.{arith}
 use lib.ListN.{length}
 use Rattle.rules.specs.Text.{decimal}
-use Rattle.decimals.specs.Decimals.{decimal_digit, length-longer, decimal-length}
+use Rattle.decimals.specs.Decimals.{decimal_digit, length_longer, decimal_length}
 use Rattle.decimals.proofs.digit_count.Statement.{statement}
 use Rattle.decimals.proofs.digit_count.Tie as tie
 
@@ -18,16 +18,16 @@ loop-holds : tie.Need-loop-init invariant-loop decreases-loop
 loop-holds c = omega arith
 
 add-count : tie.Need-overflow-add-count invariant-loop decreases-loop
-add-count c = omega (arith, decimal-length 19 c.before.before.args.x (omega arith))
+add-count c = omega (arith, decimal_length 19 c.before.before.args.x (omega arith))
 
 loop-less : tie.Need-loop-smaller invariant-loop decreases-loop
 loop-less c = omega arith
 
 loop-again : tie.Need-loop-preserved invariant-loop decreases-loop
-loop-again c = omega (arith, length-longer c.before.loop.rest (omega arith))
+loop-again c = omega (arith, length_longer c.before.loop.rest (omega arith))
 
 returns : tie.Need-returns invariant-loop decreases-loop
 returns c = omega (arith, ap length (decimal_digit c.before.loop.rest (omega arith)))
 
-pub digit-count-spec : {M : Type 1} → statement M
-digit-count-spec = tie.close (tie.spec invariant-loop decreases-loop loop-holds add-count loop-less loop-again returns)
+pub digit_count_spec : {M : Type 1} → statement M
+digit_count_spec = tie.close (tie.spec invariant-loop decreases-loop loop-holds add-count loop-less loop-again returns)

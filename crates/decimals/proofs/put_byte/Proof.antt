@@ -1,5 +1,5 @@
 -- One byte is written by the store.
-use Rattle.decimals.specs.Wrote.{wrote-byte}
+use Rattle.decimals.specs.Wrote.{wrote_byte}
 use borrow.Author.Rules.{rules}
 use Rattle.decimals.proofs.put_byte.Statement.{statement}
 use Rattle.decimals.proofs.put_byte.Tie as tie
@@ -14,7 +14,7 @@ same_length : tie.Need-same-length
 same_length c = search rules
 
 returns : tie.Need-returns
-returns c = wrote-byte c.args.out.now c.args.at c.args.b c.requires
+returns c = wrote_byte c.args.out.now c.args.at c.args.b c.requires
 
-pub put-byte-spec : {M : Type 1} → statement M
-put-byte-spec = tie.close (tie.spec slice-write-out add-result same_length returns)
+pub put_byte_spec : {M : Type 1} → statement M
+put_byte_spec = tie.close (tie.spec slice-write-out add-result same_length returns)

@@ -4,7 +4,7 @@ use mathlib.Core.Path.{◌≡◌}
 use native.Mathlib.Numerals.{add-one}
 use lib.ListN.{length, take}
 use lib.Seq.{take-suc, take_all, length-take-le}
-use Rattle.decimals.specs.Wrote.{Wrote, wrote_nothing, wrote-byte, wrote_then, wrote-length}
+use Rattle.decimals.specs.Wrote.{Wrote, wrote_nothing, wrote_byte, wrote_then, wrote_length}
 use native.Mathlib.Omega.{arith}
 use Rattle.decimals.proofs.put_bytes.Statement.{statement}
 use Rattle.decimals.proofs.put_bytes.Tie as tie
@@ -16,12 +16,12 @@ abbrev decreases-loop : tie.decreases-loop
 decreases-loop out₀ at bytes end₀ i₀ out end i = length bytes - i
 
 -- Where the bytes written end, and that the buffer is as long as it was.
-ends-in-room : (c : tie.At-loop invariant-loop decreases-loop) →
+ends_in_room : (c : tie.At-loop invariant-loop decreases-loop) →
     let a = c.before.args in (c.loop.end ≡ a.at + c.loop.i) × (length c.loop.out ≡ length a.out.now)
-ends-in-room c =
+ends_in_room c =
     let long = length-take-le c.loop.i c.before.args.bytes.now c.loop.invariant.0 in
     let wrote = c.loop.invariant.1 in
-    (omega (arith, wrote.ends, long), wrote-length (record { fits = omega (arith, c.before.requires.fits, long) }) wrote)
+    (omega (arith, wrote.ends, long), wrote_length (record { fits = omega (arith, c.before.requires.fits, long) }) wrote)
 
 loop-holds : tie.Need-loop-init invariant-loop decreases-loop
 loop-holds c = (omega arith, wrote_nothing _ _)
@@ -30,10 +30,10 @@ shared-slice-read-out : tie.Need-shared-slice-read-out invariant-loop decreases-
 shared-slice-read-out c = omega arith
 
 slice-write-out : tie.Need-slice-write-out invariant-loop decreases-loop
-slice-write-out c = let fits = ends-in-room c.before.before in omega arith
+slice-write-out c = let fits = ends_in_room c.before.before in omega arith
 
 add-end : tie.Need-overflow-add-end invariant-loop decreases-loop
-add-end c = let fits = ends-in-room c.before.before in omega arith
+add-end c = let fits = ends_in_room c.before.before in omega arith
 
 add-i : tie.Need-overflow-add-i invariant-loop decreases-loop
 add-i c = omega arith
@@ -44,22 +44,22 @@ loop-less c = omega arith
 loop-again : tie.Need-loop-preserved invariant-loop decreases-loop
 loop-again c =
     let loop = c.before.before.loop in
-    let fits = ends-in-room c.before.before in (
+    let fits = ends_in_room c.before.before in (
       omega arith,
       rw (add-one loop.i, take-suc c.before.before.before.args.bytes.now loop.i 0 c.before.loop-test.true)
-          (wrote_then loop.invariant.1 (wrote-byte loop.out loop.end _ (record { fits = omega arith }))),
+          (wrote_then loop.invariant.1 (wrote_byte loop.out loop.end _ (record { fits = omega arith }))),
     )
 
 same_length : tie.Need-same-length invariant-loop decreases-loop
-same_length c = (ends-in-room c.before).1
+same_length c = (ends_in_room c.before).1
 
 returns : tie.Need-returns invariant-loop decreases-loop
 returns c =
     let loop = c.before.loop in
     rw (take_all loop.i c.before.before.args.bytes.now (omega arith)) at loop.invariant.1
 
-pub put-bytes-spec : {M : Type 1} → statement M
-put-bytes-spec =
+pub put_bytes_spec : {M : Type 1} → statement M
+put_bytes_spec =
     tie.close
     (tie.spec
     invariant-loop

@@ -5,9 +5,9 @@ use mathlib.Core.List.{[], ◌∷◌}
 use lib.Dec.{ltb}
 use lib.ListN.{length}
 use borrow.Author.Tests.{lt-ltb, le-ltb}
-use Rattle.rules.specs.Fields.{E, kind-byte, body, size, E-from, E-to, E-transfer}
-use Rattle.rules.specs.Records.{unless, first-fault, answered, edge, edge_at}
-use Rattle.records.proofs.Laws.{fault-kept, fault-after, refused-at-opening, answered-by-its-own, answers-refusal, answers-record}
+use Rattle.rules.specs.Fields.{E, kind_byte, body, size, E_from, E_to, E_transfer}
+use Rattle.rules.specs.Records.{unless, first_fault, answered, edge, edge_at}
+use Rattle.records.proofs.Laws.{fault_kept, fault_after, refused_at_opening, answered_by_its_own, answers_refusal, answers_record}
 use native.Mathlib.Omega.{arith}
 use borrow.Author.Rules.{rules}
 use Rattle.edges.proofs.read_edge.Statement.{statement}
@@ -17,18 +17,18 @@ opening-fault-requires : tie.Need-opening-fault-requires
 opening-fault-requires c κs = search rules
 
 returns : tie.Need-returns
-unfolding edge_at kind-byte size body
-returns c = refused-at-opening _ _ E c.before.opening-fault.ensures.0 _ _ c.if1.true
+unfolding edge_at kind_byte size body
+returns c = refused_at_opening _ _ E c.before.opening_fault.ensures.0 _ _ c.if1.true
 
 -- The record is whole.
 whole : (c : tie.Else1) → let a = c.before.before.before.args in a.c.at + 5 ≤ length a.s.now
-whole c = c.before.opening-fault.ensures.1 c.if1.false
+whole c = c.before.opening_fault.ensures.1 c.if1.false
 
 returns-2 : tie.Need-returns-2
-unfolding edge_at unless first-fault answered kind-byte size body
+unfolding edge_at unless first_fault answered kind_byte size body
 returns-2 c =
     let opened = c.before in
-    answered-by-its-own _ _ E opened.before.opening-fault.ensures.0 _ _ opened.if1.false (simp (le-ltb _ _ c.if2.true))
+    answered_by_its_own _ _ E opened.before.opening_fault.ensures.0 _ _ opened.if1.false (simp (le-ltb _ _ c.if2.true))
 
 field-requires : tie.Need-field-requires
 field-requires c κs = omega (arith, whole c.before)
@@ -46,27 +46,27 @@ range-fault-requires : tie.Need-range-fault-requires
 range-fault-requires c κs = search rules
 
 -- The check for room holds.
-room : (c : tie.Else2) → 0 ≡ first-fault (unless (ltb c.before.before.before.before.args.k 512) 4 ∷ [])
-unfolding first-fault unless
+room : (c : tie.Else2) → 0 ≡ first_fault (unless (ltb c.before.before.before.before.args.k 512) 4 ∷ [])
+unfolding first_fault unless
 room c = simp (lt-ltb _ _ c.if2.false)
 
 returns-3 : tie.Need-returns-3
-unfolding edge_at kind-byte size body
+unfolding edge_at kind_byte size body
 returns-3 c =
     let few = c.before.before.before.before.before.before in
     let opened = few.before in
-    answered-by-its-own _ _ E opened.before.opening-fault.ensures.0 _ _ opened.if1.false
-    (answers-refusal _ _ _ (fault-kept _ _ c.before.before.order-fault.ensures c.if3.true ∙ fault-after _ _ (room few) refl) c.if3.true)
+    answered_by_its_own _ _ E opened.before.opening_fault.ensures.0 _ _ opened.if1.false
+    (answers_refusal _ _ _ (fault_kept _ _ c.before.before.order-fault.ensures c.if3.true ∙ fault_after _ _ (room few) refl) c.if3.true)
 
 -- With room, and in order, the ranges decide.
-by-range : (c : tie.Else3) →
+by_range : (c : tie.Else3) →
     let fields = c.before.before.before in
     let a = fields.before.before.before.before.before.before.before.args in
     answered c.before.range-fault.result a.c.at (a.c.at + 5)
     (edge fields.before.before.field.result fields.before.field2.result fields.two_bytes.result) ≡
     edge_at a.s.now a.n a.c.at a.k
-unfolding edge_at E-from E-to E-transfer kind-byte size body
-by-range c =
+unfolding edge_at E_from E_to E_transfer kind_byte size body
+by_range c =
     let ordered = c.before.before in
     let fields = ordered.before in
     let few = fields.before.before.before in
@@ -75,20 +75,20 @@ by-range c =
     let to = fields.before.field2.ensures.0 in
     let transfer = fields.two_bytes.ensures.0 in
     let range = rw (from, to, transfer) at c.before.range-fault.ensures in
-    answered-by-its-own _ _ E opened.before.opening-fault.ensures.0 _ _ opened.if1.false
-    (rw (range ∙ fault-after _ _ ordered.order-fault.ensures c.if3.false ∙ fault-after _ _ (room few) refl, from, to, transfer))
+    answered_by_its_own _ _ E opened.before.opening_fault.ensures.0 _ _ opened.if1.false
+    (rw (range ∙ fault_after _ _ ordered.order-fault.ensures c.if3.false ∙ fault_after _ _ (room few) refl, from, to, transfer))
 
 returns-4 : tie.Need-returns-4
-returns-4 c = answers-refusal _ _ _ refl c.if4.true ∙ by-range c.before
+returns-4 c = answers_refusal _ _ _ refl c.if4.true ∙ by_range c.before
 
 add-t13 : tie.Need-overflow-add-t13
 add-t13 c = omega (arith, whole c.before.before.before.before.before.before.before.before)
 
 returns-5 : tie.Need-returns-5
-returns-5 c = answers-record _ _ c.if4.false refl ∙ by-range c.before
+returns-5 c = answers_record _ _ c.if4.false refl ∙ by_range c.before
 
-pub read-edge-spec : {M : Type 1} → statement M
-read-edge-spec =
+pub read_edge_spec : {M : Type 1} → statement M
+read_edge_spec =
     tie.close
     (tie.spec
     opening-fault-requires

@@ -1,6 +1,6 @@
 -- What the planner leaves, with its answer told.
 use mathlib.Core.Path.{ap, ◌∙◌}
-use Rattle.told.specs.Told.{told-answer}
+use Rattle.told.specs.Told.{told_answer}
 use borrow.Author.Rules.{rules}
 use Rattle.exports.proofs.plan_by.Statement.{statement}
 use Rattle.exports.proofs.plan_by.Tie as tie
@@ -26,10 +26,10 @@ same-length-4 c = search rules
 returns : tie.Need-returns
 returns c =
     let plan-into = c.before.before.before.before.before.before.before.before.before.plan-into.ensures in
-    record { answer-is = c.answer-told.ensures ∙ ap told-answer plan-into.answer-is; after_is = plan-into.after_is }
+    record { answer_is = c.answer-told.ensures ∙ ap told_answer plan-into.answer_is; after_is = plan-into.after_is }
 
-pub plan-by-spec : {M : Type 1} → statement M
-plan-by-spec =
+pub plan_by_spec : {M : Type 1} → statement M
+plan_by_spec =
     tie.close
     (tie.spec
     plan-into-requires

@@ -1,6 +1,6 @@
 -- By the cases of the answer, each of which tells the length.
 use mathlib.Core.Path.{sym, ◌∙◌}
-use Rattle.text.specs.Printing.{whole-printed, too-small-printed}
+use Rattle.text.specs.Printing.{whole_printed, too_small_printed}
 use borrow.Author.Rules.{rules}
 use Rattle.exports.proofs.print_by.Statement.{statement}
 use Rattle.exports.proofs.print_by.Tie as tie
@@ -20,7 +20,7 @@ same_length c = search rules
 returns : tie.Need-returns
 returns c =
     let print = c.before.before.before.before.before.print.ensures in
-    record { length-is = whole-printed _ _ (sym c.before.printed.given.1 ∙ print.answer-is); after_is = print.after_is }
+    record { length_is = whole_printed _ _ (sym c.before.printed.given.1 ∙ print.answer_is); after_is = print.after_is }
 
 same-length-2 : tie.Need-same-length-2
 same-length-2 c = search rules
@@ -28,10 +28,10 @@ same-length-2 c = search rules
 returns-2 : tie.Need-returns-2
 returns-2 c =
     let print = c.before.before.before.before.before.print.ensures in
-    record { length-is = too-small-printed _ _ (sym c.before.printed2.given.1 ∙ print.answer-is); after_is = print.after_is }
+    record { length_is = too_small_printed _ _ (sym c.before.printed2.given.1 ∙ print.answer_is); after_is = print.after_is }
 
-pub print-by-spec : {M : Type 1} → statement M
-print-by-spec =
+pub print_by_spec : {M : Type 1} → statement M
+print_by_spec =
     tie.close
     (tie.spec
     print-requires

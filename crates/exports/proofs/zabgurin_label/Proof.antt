@@ -9,7 +9,7 @@ label-part-requires : tie.Need-label-part-requires
 label-part-requires c κs = search rules
 
 returns : tie.Need-returns
-returns c = ap told_part c.label-part.ensures
+returns c = ap told_part c.label_part.ensures
 
-pub zabgurin-label-spec : {M : Type 1} → statement M
-zabgurin-label-spec = tie.close (tie.spec label-part-requires returns)
+pub zabgurin_label_spec : {M : Type 1} → statement M
+zabgurin_label_spec = tie.close (tie.spec label-part-requires returns)

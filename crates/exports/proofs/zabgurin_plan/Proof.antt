@@ -1,5 +1,5 @@
 -- The method by its name.
-use Rattle.choosing.specs.Named.{meant-method}
+use Rattle.choosing.specs.Named.{meant_method}
 use borrow.Author.Rules.{rules}
 use Rattle.exports.proofs.zabgurin_plan.Statement.{statement}
 use Rattle.exports.proofs.zabgurin_plan.Tie as tie
@@ -20,10 +20,10 @@ same-length-4 : tie.Need-same-length-4
 same-length-4 c = search rules
 
 returns : tie.Need-returns
-unfolding meant-method
+unfolding meant_method
 returns c = c.before.before.before.before.before.before.before.before.plan-by.ensures
 
-pub zabgurin-plan-spec : {M : Type 1} → statement M
-zabgurin-plan-spec =
+pub zabgurin_plan_spec : {M : Type 1} → statement M
+zabgurin_plan_spec =
     tie.close
     (tie.spec plan-by-requires same_length same-length-2 same-length-3 same-length-4 returns)

@@ -1,5 +1,5 @@
 -- The method by its name.
-use Rattle.choosing.specs.Named.{meant-method}
+use Rattle.choosing.specs.Named.{meant_method}
 use borrow.Author.Rules.{rules}
 use Rattle.exports.proofs.zabgurin_print.Statement.{statement}
 use Rattle.exports.proofs.zabgurin_print.Tie as tie
@@ -11,8 +11,8 @@ same_length : tie.Need-same-length
 same_length c = search rules
 
 returns : tie.Need-returns
-unfolding meant-method
+unfolding meant_method
 returns c = c.before.before.print-by.ensures
 
-pub zabgurin-print-spec : {M : Type 1} → statement M
-zabgurin-print-spec = tie.close (tie.spec print-by-requires same_length returns)
+pub zabgurin_print_spec : {M : Type 1} → statement M
+zabgurin_print_spec = tie.close (tie.spec print-by-requires same_length returns)

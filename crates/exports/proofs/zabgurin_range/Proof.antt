@@ -1,6 +1,6 @@
 -- What is asked, told.
 use mathlib.Core.Path.{ap, ◌∙◌}
-use Rattle.told.specs.Told.{told-costs}
+use Rattle.told.specs.Told.{told_costs}
 use borrow.Author.Rules.{rules}
 use Rattle.exports.proofs.zabgurin_range.Statement.{statement}
 use Rattle.exports.proofs.zabgurin_range.Tie as tie
@@ -12,7 +12,7 @@ costs-told-requires : tie.Need-costs-told-requires
 costs-told-requires c κs = search rules
 
 returns : tie.Need-returns
-returns c = c.costs-told.ensures ∙ ap told-costs c.before.range.ensures
+returns c = c.costs-told.ensures ∙ ap told_costs c.before.range.ensures
 
-pub zabgurin-range-spec : {M : Type 1} → statement M
-zabgurin-range-spec = tie.close (tie.spec range-requires costs-told-requires returns)
+pub zabgurin_range_spec : {M : Type 1} → statement M
+zabgurin_range_spec = tie.close (tie.spec range-requires costs-told-requires returns)

@@ -27,7 +27,7 @@ returns c =
     let minutes = given.before in
     let told = minutes.before.before in
     rw (
-      ← told.before.before.read-request.ensures,
+      ← told.before.before.read_request.ensures,
       told.answer.given.1,
       minutes.deadline-minutes.ensures,
       given.is-given.ensures,
@@ -35,10 +35,10 @@ returns c =
     )
 
 returns-2 : tie.Need-returns-2
-returns-2 c = rw (← c.before.before.before.read-request.ensures, c.before.answer2.given.1)
+returns-2 c = rw (← c.before.before.before.read_request.ensures, c.before.answer2.given.1)
 
-pub zabgurin-read-spec : {M : Type 1} → statement M
-zabgurin-read-spec =
+pub zabgurin_read_spec : {M : Type 1} → statement M
+zabgurin_read_spec =
     tie.close
     (tie.spec
     read-request-requires

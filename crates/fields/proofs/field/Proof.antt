@@ -17,5 +17,5 @@ returns : tie.Need-returns
 unfolding byte
 returns c = c.number.ensures
 
-pub field-spec : {M : Type 1} → statement M
-field-spec = tie.close (tie.spec add-number shared-slice-read-number number-requires returns)
+pub field_spec : {M : Type 1} → statement M
+field_spec = tie.close (tie.spec add-number shared-slice-read-number number-requires returns)

@@ -29,7 +29,7 @@ returns c =
     let next : a.at + 2 + a.k ≡ a.at + a.k + 2 = omega arith in
     rw (c.before.two_bytes.ensures.0, c.two-bytes2.ensures.0, next)
 
-pub four-bytes-spec : {M : Type 1} → statement M
-four-bytes-spec =
+pub four_bytes_spec : {M : Type 1} → statement M
+four_bytes_spec =
     tie.close
     (tie.spec two-bytes-requires add-two-bytes two-bytes-requires-2 mul-result add-result returns)

@@ -29,6 +29,6 @@ returns c =
     let next : a.at + 1 + a.k ≡ a.at + a.k + 1 = omega arith in
     (rw (c.before.field.ensures.0, c.field2.ensures.0, next), omega (arith, c.before.field.ensures.1, c.field2.ensures.1))
 
-pub two-bytes-spec : {M : Type 1} → statement M
-two-bytes-spec =
+pub two_bytes_spec : {M : Type 1} → statement M
+two_bytes_spec =
     tie.close (tie.spec field-requires add-field field-requires-2 mul-result add-result returns)

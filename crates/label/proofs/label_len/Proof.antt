@@ -6,7 +6,7 @@ use mathlib.Core.List.{List}
 use borrow.Author.Rules.{rules}
 use Rattle.label.specs.Label.{Label, LabelLength}
 use Rattle.label.specs.Parts.{Run}
-use Rattle.label.specs.ListLaws.{space-not-listed}
+use Rattle.label.specs.ListLaws.{space_not_listed}
 use Rattle.label.proofs.label_len.Statement.{statement}
 use Rattle.label.proofs.label_len.Tie as tie
 
@@ -14,10 +14,10 @@ module _ {s : List ℕ} {at : ℕ} where
   no_label : ((len : ℕ) → Label s at len → ⊥) → LabelLength s at 0
   no_label none = record { label = λ h. absurd (omega arith); none = λ e. none }
 
-  label-ends-with-run : {k len : ℕ} → Run s at k → Label s at len → len ≡ k
-  label-ends-with-run {k} {len} run l =
-      let not-before : len < k → ⊥ = λ h. space-not-listed (rw (l.then-spaces len (omega arith) (omega arith)) at (run.of-the-list len h)) in
-      let not_after : k < len → ⊥ = λ h. run.stops (omega arith) (l.of-the-list k h) in
+  label_ends_with_run : {k len : ℕ} → Run s at k → Label s at len → len ≡ k
+  label_ends_with_run {k} {len} run l =
+      let not_before : len < k → ⊥ = λ h. space_not_listed (rw (l.then_spaces len (omega arith) (omega arith)) at (run.of_the_list len h)) in
+      let not_after : k < len → ⊥ = λ h. run.stops (omega arith) (l.of_the_list k h) in
       omega arith
 
 returns : tie.Need-returns
@@ -48,12 +48,12 @@ returns-3 c =
     record {
       label = λ h. record {
         whole = omega arith;
-        one-or-more = h;
-        eight-or-fewer = omega arith;
-        of-the-list = run.of-the-list;
-        then-spaces = λ k from below. c.before.spaces.ensures.passes c.if3.true (at + k) (omega arith) (omega arith);
+        one_or_more = h;
+        eight_or_fewer = omega arith;
+        of_the_list = run.of_the_list;
+        then_spaces = λ k from below. c.before.spaces.ensures.passes c.if3.true (at + k) (omega arith) (omega arith);
       };
-      none = λ e len l. omega (arith, label-ends-with-run run l);
+      none = λ e len l. omega (arith, label_ends_with_run run l);
     }
 
 returns-4 : tie.Need-returns-4
@@ -61,12 +61,12 @@ returns-4 c =
     let at = c.before.before.before.before.before.before.args.at in
     let (i, from, below, other) = c.before.spaces.ensures.fails c.if3.false in
     no_label (λ len l.
-    let ends = label-ends-with-run c.before.before.run.ensures l in
+    let ends = label_ends_with_run c.before.before.run.ensures l in
     let same : at + (i - at) ≡ i = omega arith in
-    other (rw same at (l.then-spaces (i - at) (omega arith) (omega arith))))
+    other (rw same at (l.then_spaces (i - at) (omega arith) (omega arith))))
 
-pub label-len-spec : {M : Type 1} → statement M
-label-len-spec =
+pub label_len_spec : {M : Type 1} → statement M
+label_len_spec =
     tie.close
     (tie.spec
     returns

@@ -10,14 +10,14 @@ use lib.ListN.{length, get_or}
 use lib.Dec.{eqb}
 use borrow.Author.Tests.{eqb-true, eqb-false}
 use borrow.Author.Count.{below_more}
-use Rattle.label.specs.Label.{the-list, Listed}
+use Rattle.label.specs.Label.{the_list, Listed}
 use Rattle.label.proofs.listed.Statement.{statement}
 use Rattle.label.proofs.listed.Tie as tie
 
-member-at : (xs : List ℕ) (i : ℕ) → i < length xs → Memᴰ (get_or xs i 0) xs
-member-at [] i h = absurd (omega arith)
-member-at (x ∷ xs) zero h = Memᴰ.head refl
-member-at (x ∷ xs) (suc i) h = Memᴰ.tail (member-at xs i (le_of_suc-le-suc h))
+member_at : (xs : List ℕ) (i : ℕ) → i < length xs → Memᴰ (get_or xs i 0) xs
+member_at [] i h = absurd (omega arith)
+member_at (x ∷ xs) zero h = Memᴰ.head refl
+member_at (x ∷ xs) (suc i) h = Memᴰ.tail (member_at xs i (le_of_suc-le-suc h))
 
 place_of : {b : ℕ} {xs : List ℕ} → Memᴰ b xs → (i : ℕ) × (i < length xs) × (get_or xs i 0 ≡ b)
 place_of (Memᴰ.head e) = (0, suc-le-suc zero-le, sym e)
@@ -27,15 +27,15 @@ place_of (Memᴰ.tail m) = let (i, h, e) = place_of m in (suc i, suc-le-suc h, e
 record Told (b i : ℕ) (t : Bool) : Type 0 where
   within : i ≤ 64
   passes : t ≡ true → Listed b
-  fails : t ≡ false → (k : ℕ) → k < i → get_or the-list k 0 ≡ b → ⊥
+  fails : t ≡ false → (k : ℕ) → k < i → get_or the_list k 0 ≡ b → ⊥
 
-told_more : {b : ℕ} (i : ℕ) (t u : Bool) → i < 64 → eqb (get_or the-list i 0) b ≡ u → Told b i t → Told b (i + 1) (t || u)
+told_more : {b : ℕ} (i : ℕ) (t u : Bool) → i < 64 → eqb (get_or the_list i 0) b ≡ u → Told b i t → Told b (i + 1) (t || u)
 told_more i true u h e told =
     record { within = omega arith; passes = told.passes; fails = λ none. absurd (true≢false none) }
 told_more {b} i false true h e told =
     record {
       within = omega arith;
-      passes = λ _. Memᴰ.cast (sym (eqb-true _ b e)) (member-at the-list i (omega arith));
+      passes = λ _. Memᴰ.cast (sym (eqb-true _ b e)) (member_at the_list i (omega arith));
       fails = λ none. absurd (true≢false none);
     }
 told_more {b} i false false h e told =
@@ -75,7 +75,7 @@ returns c =
       fails = λ none m. let (i, h, same) = place_of m in told.fails none i (omega arith) same;
     }
 
-pub listed-spec : {M : Type 1} → statement M
-listed-spec =
+pub listed_spec : {M : Type 1} → statement M
+listed_spec =
     tie.close
     (tie.spec invariant-loop decreases-loop loop-holds array-read-found add-i loop-less loop-again returns)

@@ -39,16 +39,16 @@ loop-again c =
 returns : tie.Need-returns invariant-loop decreases-loop
 returns c =
     record {
-      eight-or-fewer = omega arith;
-      of-the-list = c.before.before.before.before.loop.invariant.1;
+      eight_or_fewer = omega arith;
+      of_the_list = c.before.before.before.before.loop.invariant.1;
       stops = λ h. c.before.listed.ensures.fails c.if1.false;
     }
 
 returns-2 : tie.Need-returns-2 invariant-loop decreases-loop
 returns-2 c =
     record {
-      eight-or-fewer = omega arith;
-      of-the-list = c.before.loop.invariant.1;
+      eight_or_fewer = omega arith;
+      of_the_list = c.before.loop.invariant.1;
       stops = λ h. absurd (omega arith);
     }
 

@@ -43,8 +43,8 @@ returns-2 c =
       fails = λ e. absurd (true≢false e);
     }
 
-pub spaces-spec : {M : Type 1} → statement M
-spaces-spec =
+pub spaces_spec : {M : Type 1} → statement M
+spaces_spec =
     tie.close
     (tie.spec
     invariant-loop

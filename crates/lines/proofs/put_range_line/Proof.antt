@@ -1,7 +1,7 @@
 -- By the cases of the costs: the two of them, or the refusal's line.
 use Rattle.rules.specs.Text.{bytes}
-use Rattle.rules.specs.Range.{range-line}
-use Rattle.planner.specs.Planned.{meant-answer, meant-costs}
+use Rattle.rules.specs.Range.{range_line}
+use Rattle.planner.specs.Planned.{meant_answer, meant_costs}
 use borrow.Author.Rules.{rules}
 use Rattle.lines.proofs.put_range_line.Statement.{statement}
 use Rattle.lines.proofs.put_range_line.Tie as tie
@@ -13,7 +13,7 @@ slice-aggregate-put-two : tie.Need-slice-aggregate-put-two
 slice-aggregate-put-two c = search rules
 
 put-two-requires : tie.Need-put-two-requires
-unfolding range-line meant-costs bytes
+unfolding range_line meant_costs bytes
 put-two-requires c κs =
     let told = c.before.before.before in
     rw told.costs.given.1 at told.before.before.before.requires
@@ -22,7 +22,7 @@ enum-known-costs-2 : tie.Need-enum-known-costs-2
 enum-known-costs-2 c = search rules
 
 put-first-line-requires : tie.Need-put-first-line-requires
-unfolding range-line meant-costs meant-answer
+unfolding range_line meant_costs meant_answer
 put-first-line-requires c κs =
     let told = c.before.before in
     rw told.costs2.given.1 at told.before.before.before.requires
@@ -31,7 +31,7 @@ same_length : tie.Need-same-length
 same_length c = search rules
 
 returns : tie.Need-returns
-unfolding range-line meant-costs bytes
+unfolding range_line meant_costs bytes
 returns c =
     let written = c.before.before in
     rw written.before.before.before.before.costs.given.1 written.put_two.ensures
@@ -40,13 +40,13 @@ same-length-2 : tie.Need-same-length-2
 same-length-2 c = search rules
 
 returns-2 : tie.Need-returns-2
-unfolding range-line meant-costs meant-answer
+unfolding range_line meant_costs meant_answer
 returns-2 c =
     let written = c.before.before in
     rw written.before.before.before.costs2.given.1 written.put-first-line.ensures
 
-pub put-range-line-spec : {M : Type 1} → statement M
-put-range-line-spec =
+pub put_range_line_spec : {M : Type 1} → statement M
+put_range_line_spec =
     tie.close
     (tie.spec
     enum-known-costs

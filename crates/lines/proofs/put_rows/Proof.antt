@@ -5,10 +5,10 @@ use native.Mathlib.Numerals.{add-one}
 use lib.ListN.{length, take, drop}
 use Rattle.rules.specs.Labels.{label}
 use Rattle.rules.specs.Text.{lines}
-use Rattle.good.specs.ReadIsGood.{read-is-good}
-use Rattle.lookup.specs.Parts.{part-inside, part_slice}
-use Rattle.lines.specs.Lines.{column-line, room-lines, room-line}
-use Rattle.decimals.specs.Wrote.{Wrote, wrote_nothing, wrote_then, wrote-length}
+use Rattle.good.specs.ReadIsGood.{read_is_good}
+use Rattle.lookup.specs.Parts.{part_inside, part_slice}
+use Rattle.lines.specs.Lines.{column_line, room_lines, room_line}
+use Rattle.decimals.specs.Wrote.{Wrote, wrote_nothing, wrote_then, wrote_length}
 use borrow.Author.Rules.{rules}
 use native.Mathlib.Omega.{arith}
 use Rattle.lines.proofs.put_rows.Statement.{statement}
@@ -16,7 +16,7 @@ use Rattle.lines.proofs.put_rows.Tie as tie
 
 abbrev invariant-loop : tie.invariant-loop
 invariant-loop out₀ at s v n processors starts finishes costs end₀ i₀ out end i =
-    (n ≤ 64) × (i ≤ n) × Wrote out₀ at (lines i (column-line s processors starts finishes costs)) out end
+    (n ≤ 64) × (i ≤ n) × Wrote out₀ at (lines i (column_line s processors starts finishes costs)) out end
 
 abbrev decreases-loop : tie.decreases-loop
 decreases-loop out₀ at s v n processors starts finishes costs end₀ i₀ out end i = n - i
@@ -25,21 +25,21 @@ decreases-loop out₀ at s v n processors starts finishes costs end₀ i₀ out 
 label_inside : (c : tie.After-label-of invariant-loop decreases-loop) →
     let part = c.label_of.result in part.begin + part.length ≤ length c.before.before.before.before.before.args.s.now
 label_inside c =
-    part-inside c.before.before.before.before.before.args.s.now c.before.before.loop.i c.label_of.result c.label_of.ensures
+    part_inside c.before.before.before.before.before.args.s.now c.before.before.loop.i c.label_of.result c.label_of.ensures
 
-name-is : (c : tie.After-label-of invariant-loop decreases-loop) →
+name_is : (c : tie.After-label-of invariant-loop decreases-loop) →
     let part = c.label_of.result in
     let s = c.before.before.before.before.before.args.s.now in
     take (part.begin + part.length - part.begin) (drop part.begin s) ≡ label s c.before.before.loop.i
 unfolding label
-name-is c =
+name_is c =
     part_slice c.before.before.before.before.before.args.s.now c.before.before.loop.i c.label_of.result c.label_of.ensures
 
 loop-holds : tie.Need-loop-init invariant-loop decreases-loop
 unfolding lines
 loop-holds c =
     let start = c.before.before in
-    (omega (arith, start.requires.1.0, (read-is-good _ start.requires.0).tasks-in.to_high), omega arith, wrote_nothing _ _)
+    (omega (arith, start.requires.1.0, (read_is_good _ start.requires.0).tasks_in.to_high), omega arith, wrote_nothing _ _)
 
 label-of-requires : tie.Need-label-of-requires invariant-loop decreases-loop
 label-of-requires c κs =
@@ -82,13 +82,13 @@ element-copy-out-put-row-4 : tie.Need-element-copy-out-put-row-4 invariant-loop 
 element-copy-out-put-row-4 c = search rules
 
 put-row-requires : tie.Need-put-row-requires invariant-loop decreases-loop
-unfolding column-line
+unfolding column_line
 put-row-requires c κs =
     let at_label = c.before.before.before.before.before.before in
     let at-loop = at_label.before.before in
     let start = at-loop.before.before.before in
     let loop = at-loop.loop in
-    rw (name-is at_label) (room-line _ start.args.n start.requires.1.1 loop.i (omega arith) loop.invariant.2)
+    rw (name_is at_label) (room_line _ start.args.n start.requires.1.1 loop.i (omega arith) loop.invariant.2)
 
 add-i : tie.Need-overflow-add-i invariant-loop decreases-loop
 add-i c = search rules
@@ -97,18 +97,18 @@ loop-less : tie.Need-loop-smaller invariant-loop decreases-loop
 loop-less c = search rules
 
 loop-again : tie.Need-loop-preserved invariant-loop decreases-loop
-unfolding lines column-line
+unfolding lines column_line
 loop-again c =
     let at_row = c.before.before in
     let at_label = at_row.before.before.before.before.before.before.before in
     let loop = at_label.before.before.loop in
-    (loop.invariant.0, omega arith, rw (add-one loop.i) (wrote_then loop.invariant.2 (rw (name-is at_label) at at_row.put-row.ensures)))
+    (loop.invariant.0, omega arith, rw (add-one loop.i) (wrote_then loop.invariant.2 (rw (name_is at_label) at at_row.put-row.ensures)))
 
 same_length : tie.Need-same-length invariant-loop decreases-loop
 same_length c =
     let at-loop = c.before in
     let start = at-loop.before.before.before in
-    wrote-length (room-lines _ start.args.n start.requires.1.1 at-loop.loop.i at-loop.loop.invariant.1) at-loop.loop.invariant.2
+    wrote_length (room_lines _ start.args.n start.requires.1.1 at-loop.loop.i at-loop.loop.invariant.1) at-loop.loop.invariant.2
 
 returns : tie.Need-returns invariant-loop decreases-loop
 returns c =
@@ -116,8 +116,8 @@ returns c =
     let all : at-loop.loop.i ≡ at-loop.before.before.before.args.n = omega arith in
     rw (← all) at-loop.loop.invariant.2
 
-pub put-rows-spec : {M : Type 1} → statement M
-put-rows-spec =
+pub put_rows_spec : {M : Type 1} → statement M
+put_rows_spec =
     tie.close
     (tie.spec
     invariant-loop

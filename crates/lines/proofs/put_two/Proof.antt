@@ -1,17 +1,17 @@
 -- The opening, and the two fields.
-use Rattle.decimals.specs.Wrote.{wrote_then, room-first, room_next}
+use Rattle.decimals.specs.Wrote.{wrote_then, room_first, room_next}
 use Rattle.lines.specs.Lines.{two_fields}
 use borrow.Author.Rules.{rules}
 use Rattle.lines.proofs.put_two.Statement.{statement}
 use Rattle.lines.proofs.put_two.Tie as tie
 
 put-bytes-requires : tie.Need-put-bytes-requires
-put-bytes-requires c κs = room-first _ (rw (two_fields _ _ _) at c.before.before.before.requires)
+put-bytes-requires c κs = room_first _ (rw (two_fields _ _ _) at c.before.before.before.requires)
 
 put-field-requires : tie.Need-put-field-requires
 put-field-requires c κs =
     let opened = c.before.before.before in
-    room-first _ (room_next (rw (two_fields _ _ _) at opened.before.before.before.before.requires) opened.put-bytes.ensures)
+    room_first _ (room_next (rw (two_fields _ _ _) at opened.before.before.before.before.requires) opened.put-bytes.ensures)
 
 put-field-requires-2 : tie.Need-put-field-requires-2
 put-field-requires-2 c κs =
@@ -30,5 +30,5 @@ returns c =
     rw (two_fields _ _ _)
     (wrote_then opened.put-bytes.ensures (wrote_then parted.put-field.ensures c.before.before.put-field2.ensures))
 
-pub put-two-spec : {M : Type 1} → statement M
-put-two-spec = tie.close (tie.spec put-bytes-requires put-field-requires put-field-requires-2 same_length returns)
+pub put_two_spec : {M : Type 1} → statement M
+put_two_spec = tie.close (tie.spec put-bytes-requires put-field-requires put-field-requires-2 same_length returns)

@@ -1,22 +1,22 @@
 -- The loop has read the first j records of minutes, up to the cursor.
 use mathlib.Core.Path.{ap}
 use Prim.Native.Nat.{◌-◌}
-use Rattle.rules.specs.Records.{minutes-at}
+use Rattle.rules.specs.Records.{minutes_at}
 use Rattle.records.specs.Meaning.{meant}
-use Rattle.parts.proofs.Laws.{Reached, none-reached, one-more-reached, refused-there, all-reached}
+use Rattle.parts.proofs.Laws.{Reached, none_reached, one_more_reached, refused_there, all_reached}
 use borrow.Author.Rules.{rules}
 use native.Mathlib.Omega.{arith}
 use Rattle.parts.proofs.read_row.Statement.{statement}
 use Rattle.parts.proofs.read_row.Tie as tie
 
 abbrev invariant-loop : tie.invariant-loop
-invariant-loop s task m next₀ j₀ next j = Reached (λ at j. minutes-at s at task j) next₀.at m j next.at
+invariant-loop s task m next₀ j₀ next j = Reached (λ at j. minutes_at s at task j) next₀.at m j next.at
 
 abbrev decreases-loop : tie.decreases-loop
 decreases-loop s task m next₀ j₀ next j = m - j
 
 loop-holds : tie.Need-loop-init invariant-loop decreases-loop
-loop-holds c = none-reached
+loop-holds c = none_reached
 
 read-minutes-requires : tie.Need-read-minutes-requires invariant-loop decreases-loop
 read-minutes-requires c κs = search rules
@@ -34,7 +34,7 @@ returns : tie.Need-returns invariant-loop decreases-loop
 returns c =
     let answered = c.before.before.before in
     rw (c.handed-up.ensures, c.before.enum_told.given.1)
-    (refused-there answered.before.before.loop.invariant answered.before.loop-test.true answered.read-minutes.ensures
+    (refused_there answered.before.before.loop.invariant answered.before.loop-test.true answered.read-minutes.ensures
     (ap meant c.before.enum_told.given.1))
 
 add-j : tie.Need-overflow-add-j invariant-loop decreases-loop
@@ -46,14 +46,14 @@ loop-less c = omega arith
 loop-again : tie.Need-loop-preserved invariant-loop decreases-loop
 loop-again c =
     let answered = c.before.before.before in
-    one-more-reached answered.before.before.loop.invariant answered.before.loop-test.true answered.read-minutes.ensures
+    one_more_reached answered.before.before.loop.invariant answered.before.loop-test.true answered.read-minutes.ensures
     (ap meant c.before.answer.given.1)
 
 returns-2 : tie.Need-returns-2 invariant-loop decreases-loop
-returns-2 c = all-reached c.before.loop.invariant c.loop-test.false
+returns-2 c = all_reached c.before.loop.invariant c.loop-test.false
 
-pub read-row-spec : {M : Type 1} → statement M
-read-row-spec =
+pub read_row_spec : {M : Type 1} → statement M
+read_row_spec =
     tie.close
     (tie.spec
     invariant-loop

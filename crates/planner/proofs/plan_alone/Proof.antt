@@ -2,9 +2,9 @@
 use native.Mathlib.Omega.{arith}
 use Rattle.rules.specs.Workflow.{workflow}
 use Rattle.rules.specs.Budget.{unbound}
-use Rattle.choosing.specs.Named.{meant-method}
-use Rattle.lookup.specs.Lookup.{workflow-of}
-use Rattle.planner.specs.Plans.{alone-plan}
+use Rattle.choosing.specs.Named.{meant_method}
+use Rattle.lookup.specs.Lookup.{workflow_of}
+use Rattle.planner.specs.Plans.{alone_plan}
 use Rattle.planner.proofs.plan_alone.Statement.{statement}
 use Rattle.planner.proofs.plan_alone.Tie as tie
 
@@ -17,7 +17,7 @@ returns : tie.Need-returns
 unfolding workflow unbound
 returns c =
     let a = c.before.before.before.before.before.before.args in
-    alone-plan (meant-method a.method) (workflow-of a.s.now a.v) c.place-all.ensures
+    alone_plan (meant_method a.method) (workflow_of a.s.now a.v) c.place-all.ensures
 
-pub plan-alone-spec : {M : Type 1} → statement M
-plan-alone-spec = tie.close (tie.spec place-all-requires returns)
+pub plan_alone_spec : {M : Type 1} → statement M
+plan_alone_spec = tie.close (tie.spec place-all-requires returns)

@@ -1,11 +1,11 @@
 -- The plan by a method that is held to nothing, or HBCS's.
 use mathlib.Core.Path.{sym, ◌∙◌}
 use borrow.Author.Rules.{rules}
-use Rattle.choosing.specs.Named.{meant-method}
-use Rattle.reader.specs.Meaning.{meant-share}
-use Rattle.lookup.specs.Lookup.{workflow-of}
+use Rattle.choosing.specs.Named.{meant_method}
+use Rattle.reader.specs.Meaning.{meant_share}
+use Rattle.lookup.specs.Lookup.{workflow_of}
 use Rattle.budgets.specs.Prepared.{Prepared}
-use Rattle.planner.specs.Checks.{alone-later, within-else}
+use Rattle.planner.specs.Checks.{alone_later, within_else}
 use Rattle.planner.proofs.plan_ranked.Statement.{statement}
 use Rattle.planner.proofs.plan_ranked.Tie as tie
 
@@ -28,18 +28,18 @@ charges c = c.before.before.before.before
 prepared :
     (c : tie.After-cheapest-total)
     → let a = (entry c).args in
-    let p = (charges c).charges-of.result in
-    Prepared a.s.now a.v p.prices p.minimums a.ranks.now a.edges_at.now c.cheapest-total.result
+    let p = (charges c).charges_of.result in
+    Prepared a.s.now a.v p.prices p.minimums a.ranks.now a.edges_at.now c.cheapest_total.result
 prepared c =
     let pre = (entry c).requires in
     record {
       good = pre.0;
-      no-cycle = pre.1.1.0.0;
-      ranks-of = pre.1.0;
+      no_cycle = pre.1.1.0.0;
+      ranks_of = pre.1.0;
       begins = pre.1.1.0.1;
-      charges-of = (charges c).charges-of.ensures;
-      cheapest-is = c.cheapest-total.ensures.0;
-      cheapest-in = c.cheapest-total.ensures.1;
+      charges_of = (charges c).charges_of.ensures;
+      cheapest_is = c.cheapest_total.ensures.0;
+      cheapest_in = c.cheapest_total.ensures.1;
     }
 
 plan-alone-requires : tie.Need-plan-alone-requires
@@ -51,9 +51,9 @@ returns : tie.Need-returns
 returns c =
     let chosen = c.before.before.before.before.before.before.before.before in
     let start = entry chosen.before.before in
-    let W = workflow-of start.args.s.now start.args.v in
+    let W = workflow_of start.args.s.now start.args.v in
     let alone = sym chosen.before.alone.ensures ∙ chosen.if1.true in
-    rw (alone-later (meant-method start.args.method) (meant-share start.args.v.share) W alone) c.plan-alone.ensures
+    rw (alone_later (meant_method start.args.method) (meant_share start.args.v.share) W alone) c.plan_alone.ensures
 
 plan-within-requires : tie.Need-plan-within-requires
 plan-within-requires c κs =
@@ -64,12 +64,12 @@ returns-2 : tie.Need-returns-2
 returns-2 c =
     let chosen = c.before.before.before.before.before.before.before.before in
     let start = entry chosen.before.before in
-    let W = workflow-of start.args.s.now start.args.v in
+    let W = workflow_of start.args.s.now start.args.v in
     let held = sym chosen.before.alone.ensures ∙ chosen.if1.false in
-    rw (within-else (meant-method start.args.method) (meant-share start.args.v.share) W held) c.plan-within.ensures
+    rw (within_else (meant_method start.args.method) (meant_share start.args.v.share) W held) c.plan-within.ensures
 
-pub plan-ranked-spec : {M : Type 1} → statement M
-plan-ranked-spec =
+pub plan_ranked_spec : {M : Type 1} → statement M
+plan_ranked_spec =
     tie.close
     (tie.spec
     charges-of-requires

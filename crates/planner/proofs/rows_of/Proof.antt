@@ -18,5 +18,5 @@ returns-2 : tie.Need-returns-2
 unfolding rows_told
 returns-2 c = rw c.enum_told.given.1
 
-pub rows-of-spec : {M : Type 1} → statement M
-rows-of-spec = tie.close (tie.spec enum-known-answer enum_told returns returns-2)
+pub rows_of_spec : {M : Type 1} → statement M
+rows_of_spec = tie.close (tie.spec enum-known-answer enum_told returns returns-2)

@@ -18,5 +18,5 @@ returns-2 : tie.Need-returns-2
 unfolding to_write
 returns-2 c = rw c.enum_told.given.1
 
-pub bytes-of-spec : {M : Type 1} → statement M
-bytes-of-spec = tie.close (tie.spec enum-known-printed enum_told returns returns-2)
+pub bytes_of_spec : {M : Type 1} → statement M
+bytes_of_spec = tie.close (tie.spec enum-known-printed enum_told returns returns-2)

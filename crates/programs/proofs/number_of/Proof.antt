@@ -3,7 +3,7 @@ use Prim.Native.Nat.{◌+◌, ◌-◌, ◌≤◌}
 use mathlib.Core.Path.{◌≡◌, refl}
 use native.Mathlib.Numerals.{add-one}
 use native.Mathlib.Omega.{arith}
-use Rattle.programs.specs.Spelled.{spelled, number_of, Small, small-next, small-fits}
+use Rattle.programs.specs.Spelled.{spelled, number_of, Small, small_next, small_fits}
 use borrow.Author.Rules.{rules}
 use Rattle.programs.proofs.number_of.Statement.{statement}
 use Rattle.programs.proofs.number_of.Tie as tie
@@ -24,7 +24,7 @@ loop-holds c = (omega arith, omega arith, refl)
 mul-x : tie.Need-overflow-mul-x invariant-loop decreases-loop
 mul-x c =
     let loop = c.before.loop in
-    record { fits = omega (arith, small-fits loop.i loop.x 0 loop.invariant.1 (omega arith) (omega arith)) }
+    record { fits = omega (arith, small_fits loop.i loop.x 0 loop.invariant.1 (omega arith) (omega arith)) }
 
 shared-slice-read-digit-of : tie.Need-shared-slice-read-digit-of invariant-loop decreases-loop
 shared-slice-read-digit-of c = omega arith
@@ -35,7 +35,7 @@ digit-of-requires c κs = search rules
 add-x : tie.Need-overflow-add-x invariant-loop decreases-loop
 add-x c =
     let loop = c.before.before.before.loop in
-    record { fits = small-fits loop.i loop.x c.digit-of.result loop.invariant.1 c.digit-of.ensures.1 (omega arith) }
+    record { fits = small_fits loop.i loop.x c.digit-of.result loop.invariant.1 c.digit-of.ensures.1 (omega arith) }
 
 add-i : tie.Need-overflow-add-i invariant-loop decreases-loop
 add-i c = search rules
@@ -49,7 +49,7 @@ loop-again c =
     let loop = c.before.before.before.loop in
     let digit = c.digit-of.ensures in (
       omega arith,
-      small-next loop.i loop.x c.digit-of.result loop.invariant.1 digit.1,
+      small_next loop.i loop.x c.digit-of.result loop.invariant.1 digit.1,
       rw (add-one loop.i, ← loop.invariant.2, digit.0),
     )
 
@@ -61,8 +61,8 @@ returns c =
     let all : at-loop.loop.i ≡ n.result = omega arith in
     rw (← n.ensures, ← all) at-loop.loop.invariant.2
 
-pub number-of-spec : {M : Type 1} → statement M
-number-of-spec =
+pub number_of_spec : {M : Type 1} → statement M
+number_of_spec =
     tie.close
     (tie.spec
     invariant-loop

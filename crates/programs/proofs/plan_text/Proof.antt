@@ -16,5 +16,5 @@ same_length c = search rules
 returns : tie.Need-returns
 returns c = text_in c.before.before.before.print.ensures c.bytes_of.ensures
 
-pub plan-text-spec : {M : Type 1} → statement M
-plan-text-spec = tie.close (tie.spec print-requires bytes-of-requires same_length returns)
+pub plan_text_spec : {M : Type 1} → statement M
+plan_text_spec = tie.close (tie.spec print-requires bytes-of-requires same_length returns)

@@ -16,5 +16,5 @@ same_length c = search rules
 returns : tie.Need-returns
 returns c = text_in c.before.before.before.print-range.ensures c.bytes_of.ensures
 
-pub range-text-spec : {M : Type 1} → statement M
-range-text-spec = tie.close (tie.spec print-range-requires bytes-of-requires same_length returns)
+pub range_text_spec : {M : Type 1} → statement M
+range_text_spec = tie.close (tie.spec print-range-requires bytes-of-requires same_length returns)

@@ -1,6 +1,6 @@
 -- The two numbers are spelled, and what was printed lies inside the buffer.
 use mathlib.Core.Path.{ap₂}
-use Rattle.rules.specs.Why.{why-not, why-text}
+use Rattle.rules.specs.Why.{why_not, why_text}
 use borrow.Author.Rules.{rules}
 use Rattle.programs.specs.Told.{text_in}
 use Rattle.programs.proofs.why_text.Statement.{statement}
@@ -26,11 +26,11 @@ returns c =
     let printed = c.before.before.before in
     let minute = printed.before.before in
     let request = minute.before.before.before.before.before.before.args.request.now in
-    rw (ap₂ (λ i t. why-text (why-not request i t)) minute.before.number_of.ensures minute.number-of2.ensures) at
+    rw (ap₂ (λ i t. why_text (why_not request i t)) minute.before.number_of.ensures minute.number-of2.ensures) at
     (text_in printed.print-why.ensures c.bytes_of.ensures)
 
-pub why-text-spec : {M : Type 1} → statement M
-why-text-spec =
+pub why_text_spec : {M : Type 1} → statement M
+why_text_spec =
     tie.close
     (tie.spec
     number-of-requires

@@ -3,9 +3,9 @@ use mathlib.Core.Path.{◌≡◌, refl, ap, ◌∙◌}
 use Prim.Native.Nat.{ℕ, ◌+◌, ◌*◌, ◌-◌, ◌≤◌}
 use Rattle.rules.specs.Folds.{sum}
 use Rattle.rules.specs.Workflow.{workflow}
-use Rattle.laws.specs.Folds.{sum-next}
-use Rattle.lookup.specs.Lookup.{workflow-of}
-use Rattle.lookup.specs.Views.{view-in-range}
+use Rattle.laws.specs.Folds.{sum_next}
+use Rattle.lookup.specs.Lookup.{workflow_of}
+use Rattle.lookup.specs.Views.{view_in_range}
 use borrow.Author.Rules.{rules}
 use native.Mathlib.Omega.{arith}
 use Rattle.ranking.proofs.all_minutes.Statement.{statement}
@@ -13,7 +13,7 @@ use Rattle.ranking.proofs.all_minutes.Tie as tie
 
 abbrev invariant-loop : tie.invariant-loop
 invariant-loop s v task minutes₀ j₀ minutes j =
-    (j ≤ v.processors) × (minutes ≡ sum j ((workflow-of s v).minutes task)) × (minutes ≤ 2_000 * j)
+    (j ≤ v.processors) × (minutes ≡ sum j ((workflow_of s v).minutes task)) × (minutes ≤ 2_000 * j)
 
 abbrev decreases-loop : tie.decreases-loop
 decreases-loop s v task minutes₀ j₀ minutes j = v.processors - j
@@ -31,7 +31,7 @@ add-minutes c =
     let pre = c.before.before.before.before.before.requires in
     let a = c.before.before.before.before.before.args in
     let minutes = c.minutes in
-    omega (arith, minutes.ensures, (view-in-range a.s.now a.v pre.0).processors-in)
+    omega (arith, minutes.ensures, (view_in_range a.s.now a.v pre.0).processors_in)
 
 add-j : tie.Need-overflow-add-j invariant-loop decreases-loop
 add-j c = omega arith
@@ -44,11 +44,11 @@ loop-again c =
     let a = c.before.before.before.before.before.args in
     let loop = c.before.before.before.loop in
     let minutes = c.minutes in
-    let W = workflow-of a.s.now a.v in
+    let W = workflow_of a.s.now a.v in
     let inv = loop.invariant in
     let here = minutes.ensures in (
       omega arith,
-      sum-next loop.j (W.minutes a.task) inv.1 (ap (λ (x : ℕ). loop.minutes + x) here.0),
+      sum_next loop.j (W.minutes a.task) inv.1 (ap (λ (x : ℕ). loop.minutes + x) here.0),
       omega arith,
     )
 
@@ -58,16 +58,16 @@ returns c =
     let pre = c.before.before.before.before.requires in
     let a = c.before.before.before.before.args in
     let loop = c.before.before.loop in
-    let W = workflow-of a.s.now a.v in
-    let range = view-in-range a.s.now a.v pre.0 in
+    let W = workflow_of a.s.now a.v in
+    let range = view_in_range a.s.now a.v pre.0 in
     let inv = loop.invariant in
     let passed : loop.j ≡ a.v.processors = omega arith in (
       inv.1 ∙ ap (λ (k : ℕ). sum k (W.minutes a.task)) passed,
-      omega (arith, range.processors-in),
+      omega (arith, range.processors_in),
     )
 
-pub all-minutes-spec : {M : Type 1} → statement M
-all-minutes-spec =
+pub all_minutes_spec : {M : Type 1} → statement M
+all_minutes_spec =
     tie.close
     (tie.spec
     invariant-loop

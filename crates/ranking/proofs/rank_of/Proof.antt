@@ -3,17 +3,17 @@ use mathlib.Core.Path.{◌≡◌, sym, ap, ◌∙◌}
 use Prim.Native.Nat.{ℕ, ◌+◌, ◌*◌, ◌-◌, max}
 use native.Mathlib.Nat.{mul-le-mul}
 use Rattle.rules.specs.Workflow.{workflow}
-use Rattle.lookup.specs.Lookup.{workflow-of}
-use Rattle.lookup.specs.Views.{view-in-range}
+use Rattle.lookup.specs.Lookup.{workflow_of}
+use Rattle.lookup.specs.Views.{view_in_range}
 use Rattle.laws.specs.Stores.{at}
-use Rattle.ranking.specs.Passed.{Passed, passed_none, passed-more, passed-all, held-up-here}
+use Rattle.ranking.specs.Passed.{Passed, passed_none, passed_more, passed_all, held_up_here}
 use borrow.Author.Rules.{rules}
 use native.Mathlib.Omega.{arith}
 use Rattle.ranking.proofs.rank_of.Statement.{statement}
 use Rattle.ranking.proofs.rank_of.Tie as tie
 
 abbrev invariant-loop : tie.invariant-loop
-invariant-loop s v ranks task begin end processors most₀ e₀ most e = Passed (workflow-of s v) ranks task begin end e most
+invariant-loop s v ranks task begin end processors most₀ e₀ most e = Passed (workflow_of s v) ranks task begin end e most
 
 abbrev decreases-loop : tie.decreases-loop
 decreases-loop s v ranks task begin end processors most₀ e₀ most e = end - e
@@ -22,8 +22,8 @@ loop-holds : tie.Need-loop-init invariant-loop decreases-loop
 loop-holds c =
     let pre = c.before.requires in
     let a = c.before.args in
-    let W = workflow-of a.s.now a.v in
-    let range = view-in-range a.s.now a.v pre.0 in
+    let W = workflow_of a.s.now a.v in
+    let range = view_in_range a.s.now a.v pre.0 in
     passed_none W range a.ranks.now a.task a.begin a.end pre.1.1.0 pre.1.1.1
 
 to-requires : tie.Need-to-requires invariant-loop decreases-loop
@@ -36,7 +36,7 @@ mul-onward c =
     let pre = c.before.before.before.before.requires in
     let a = c.before.before.before.before.args in
     let to = c.to in
-    omega (arith, to.ensures.1, (view-in-range a.s.now a.v pre.0).tasks-in)
+    omega (arith, to.ensures.1, (view_in_range a.s.now a.v pre.0).tasks_in)
 
 element-copy-out-onward : tie.Need-element-copy-out-onward invariant-loop decreases-loop
 unfolding workflow
@@ -44,7 +44,7 @@ element-copy-out-onward c =
     let pre = c.before.before.before.before.requires in
     let a = c.before.before.before.before.args in
     let to = c.to in
-    omega (arith, to.ensures.1, (view-in-range a.s.now a.v pre.0).tasks-in)
+    omega (arith, to.ensures.1, (view_in_range a.s.now a.v pre.0).tasks_in)
 
 returns : tie.Need-returns invariant-loop decreases-loop
 returns c =
@@ -54,11 +54,11 @@ returns c =
     let loop-test = c.before.before.before.loop-test in
     let to = c.before.before.to in
     let if1 = c.if1 in
-    let W = workflow-of a.s.now a.v in
-    let range = view-in-range a.s.now a.v pre.0 in
+    let W = workflow_of a.s.now a.v in
+    let range = view_in_range a.s.now a.v pre.0 in
     let unknown = ap (at a.ranks.now) (sym to.ensures.0) ∙ if1.true in
-    held-up-here W range a.ranks.now a.task a.begin a.end pre.1.1.0 pre.1.1.1 loop.e loop-test.true
-    loop.invariant.from-begin unknown
+    held_up_here W range a.ranks.now a.task a.begin a.end pre.1.1.0 pre.1.1.1 loop.e loop-test.true
+    loop.invariant.from_begin unknown
 
 transfer-requires : tie.Need-transfer-requires invariant-loop decreases-loop
 unfolding workflow
@@ -72,8 +72,8 @@ mul-larger c =
     let pre = c.before.before.before.before.before.before.before.requires in
     let a = c.before.before.before.before.before.before.before.args in
     let transfer = c.transfer in
-    let range = view-in-range a.s.now a.v pre.0 in
-    omega (arith, mul-le-mul range.processors-in.to_high transfer.ensures.1)
+    let range = view_in_range a.s.now a.v pre.0 in
+    omega (arith, mul-le-mul range.processors_in.to_high transfer.ensures.1)
 
 sub-larger : tie.Need-overflow-sub-larger invariant-loop decreases-loop
 sub-larger c = omega arith
@@ -85,8 +85,8 @@ add-larger c =
     let a = c.before.before.before.before.before.before.before.args in
     let to = c.before.before.before.to in
     let transfer = c.transfer in
-    let range = view-in-range a.s.now a.v pre.0 in
-    omega (arith, mul-le-mul range.processors-in.to_high transfer.ensures.1, pre.1.0.1 to.result)
+    let range = view_in_range a.s.now a.v pre.0 in
+    omega (arith, mul-le-mul range.processors_in.to_high transfer.ensures.1, pre.1.0.1 to.result)
 
 larger-requires : tie.Need-larger-requires invariant-loop decreases-loop
 larger-requires c κs = search rules
@@ -108,11 +108,11 @@ loop-again c =
     let if1 = c.before.before.if1 in
     let transfer = c.before.transfer in
     let larger = c.larger in
-    let W = workflow-of a.s.now a.v in
-    let range = view-in-range a.s.now a.v pre.0 in
+    let W = workflow_of a.s.now a.v in
+    let range = view_in_range a.s.now a.v pre.0 in
     let successor = at a.ranks.now to.result in
     let next = larger.ensures ∙ ap (λ (t : ℕ). max loop.most (a.v.processors * t + (successor - 1))) transfer.ensures.0 in
-    passed-more W range a.ranks.now a.task a.begin a.end pre.1.1.0 pre.1.1.1 loop.e loop-test.true loop.invariant
+    passed_more W range a.ranks.now a.task a.begin a.end pre.1.1.0 pre.1.1.1 loop.e loop-test.true loop.invariant
     (ap (at a.ranks.now) to.ensures.0) (omega (arith, if1.false))
     (pre.1.0.1 to.result) next
 
@@ -132,14 +132,14 @@ returns-2 c =
     let a = c.before.before.before.before.args in
     let loop = c.before.before.loop in
     let all-minutes = c.all-minutes in
-    let W = workflow-of a.s.now a.v in
-    let range = view-in-range a.s.now a.v pre.0 in
+    let W = workflow_of a.s.now a.v in
+    let range = view_in_range a.s.now a.v pre.0 in
     let passed : loop.e ≡ a.end = omega (arith, loop.invariant.to_end) in
-    passed-all W range a.ranks.now a.task a.begin a.end pre.1.1.0 pre.1.1.1 (rw passed at loop.invariant)
+    passed_all W range a.ranks.now a.task a.begin a.end pre.1.1.0 pre.1.1.1 (rw passed at loop.invariant)
     (ap (λ (x : ℕ). x + loop.most + 1) all-minutes.ensures.0)
 
-pub rank-of-spec : {M : Type 1} → statement M
-rank-of-spec =
+pub rank_of_spec : {M : Type 1} → statement M
+rank_of_spec =
     tie.close
     (tie.spec
     invariant-loop

@@ -3,30 +3,30 @@ use mathlib.Core.Path.{◌≡◌}
 use Prim.Native.Nat.{ℕ, ◌+◌, ◌-◌, ◌≤◌}
 use Rattle.rules.specs.Workflow.{workflow}
 use Rattle.good.specs.Ranges.{InRange}
-use Rattle.lookup.specs.Lookup.{workflow-of}
-use Rattle.lookup.specs.Views.{view-in-range}
-use Rattle.laws.specs.Turned.{Turned, turned_none, turned-next}
+use Rattle.lookup.specs.Lookup.{workflow_of}
+use Rattle.lookup.specs.Views.{view_in_range}
+use Rattle.laws.specs.Turned.{Turned, turned_none, turned_next}
 use Rattle.laws.specs.Stores.{at}
 use Rattle.ranking.specs.Ranked.{RankedSoFar, AllHeldUp}
-use Rattle.ranking.specs.RankedLaws.{held-up-from}
+use Rattle.ranking.specs.RankedLaws.{held_up_from}
 use native.Mathlib.Omega.{arith}
 use Rattle.ranking.proofs.rank_pass.Statement.{statement}
 use Rattle.ranking.proofs.rank_pass.Tie as tie
 
 abbrev invariant-loop : tie.invariant-loop
 invariant-loop s v begins ranks₀ left now-left₀ task₀ ranks now-left task =
-    (task ≤ v.tasks) × Turned (RankedSoFar (workflow-of s v)) (AllHeldUp (workflow-of s v) task) ranks₀ ranks left now-left
+    (task ≤ v.tasks) × Turned (RankedSoFar (workflow_of s v)) (AllHeldUp (workflow_of s v) task) ranks₀ ranks left now-left
 
 abbrev decreases-loop : tie.decreases-loop
 decreases-loop s v begins ranks₀ left now-left₀ task₀ ranks now-left task = task
 
 -- The workflow is in range, and so is where a task's edges begin.
-in-range : (c : tie.Start invariant-loop decreases-loop) → InRange (workflow-of c.args.s.now c.args.v)
-in-range c = view-in-range c.args.s.now c.args.v c.requires.0
+in_range : (c : tie.Start invariant-loop decreases-loop) → InRange (workflow_of c.args.s.now c.args.v)
+in_range c = view_in_range c.args.s.now c.args.v c.requires.0
 
-begin-within : (c : tie.Start invariant-loop decreases-loop) (task : ℕ) → task ≤ c.args.v.tasks → at c.args.begins.now task ≤ 512
+begin_within : (c : tie.Start invariant-loop decreases-loop) (task : ℕ) → task ≤ c.args.v.tasks → at c.args.begins.now task ≤ 512
 unfolding workflow
-begin-within c task l = omega (arith, (c.requires.1.0.begin task (omega arith) l).within, (in-range c).edges-in)
+begin_within c task l = omega (arith, (c.requires.1.0.begin task (omega arith) l).within, (in_range c).edges_in)
 
 loop-holds : tie.Need-loop-init invariant-loop decreases-loop
 unfolding workflow
@@ -34,30 +34,30 @@ loop-holds c = (omega arith, turned_none c.before.requires.1.1 (λ i l below. ab
 
 mul-end : tie.Need-overflow-mul-end invariant-loop decreases-loop
 unfolding workflow
-mul-end c = omega (arith, (in-range c.before.before.before).tasks-in)
+mul-end c = omega (arith, (in_range c.before.before.before).tasks_in)
 
 element-copy-out-end : tie.Need-element-copy-out-end invariant-loop decreases-loop
 unfolding workflow
-element-copy-out-end c = omega (arith, (in-range c.before.before.before).tasks-in)
+element-copy-out-end c = omega (arith, (in_range c.before.before.before).tasks_in)
 
 cast-end : tie.Need-overflow-cast-end invariant-loop decreases-loop
 unfolding workflow
-cast-end c = omega (arith, begin-within c.before.before.before.before c.before.before.loop.task (omega arith))
+cast-end c = omega (arith, begin_within c.before.before.before.before c.before.before.loop.task (omega arith))
 
 sub-task : tie.Need-overflow-sub-task invariant-loop decreases-loop
 sub-task c = omega arith
 
 mul-begin : tie.Need-overflow-mul-begin invariant-loop decreases-loop
 unfolding workflow
-mul-begin c = omega (arith, (in-range c.before.before.before.before).tasks-in)
+mul-begin c = omega (arith, (in_range c.before.before.before.before).tasks_in)
 
 element-copy-out-begin : tie.Need-element-copy-out-begin invariant-loop decreases-loop
 unfolding workflow
-element-copy-out-begin c = omega (arith, (in-range c.before.before.before.before).tasks-in)
+element-copy-out-begin c = omega (arith, (in_range c.before.before.before.before).tasks_in)
 
 cast-begin : tie.Need-overflow-cast-begin invariant-loop decreases-loop
 unfolding workflow
-cast-begin c = omega (arith, begin-within c.before.before.before.before.before (c.before.before.before.loop.task - 1) (omega arith))
+cast-begin c = omega (arith, begin_within c.before.before.before.before.before (c.before.before.before.loop.task - 1) (omega arith))
 
 rank-task-requires : tie.Need-rank-task-requires invariant-loop decreases-loop
 unfolding workflow
@@ -77,7 +77,7 @@ loop-again c =
     let loop = c.before.before.before.before.before.loop in
     let again : loop.task - 1 + 1 ≡ loop.task = omega arith in
     let so_far = loop.invariant.1 in
-    (omega arith, turned-next (held-up-from (workflow-of a.s.now a.v) (loop.task - 1)) (rw again so_far) c.rank-task.ensures)
+    (omega arith, turned_next (held_up_from (workflow_of a.s.now a.v) (loop.task - 1)) (rw again so_far) c.rank-task.ensures)
 
 returns : tie.Need-returns invariant-loop decreases-loop
 returns c =
@@ -85,8 +85,8 @@ returns c =
     let none : loop.task ≡ 0 = omega arith in
     rw none at loop.invariant.1
 
-pub rank-pass-spec : {M : Type 1} → statement M
-rank-pass-spec =
+pub rank_pass_spec : {M : Type 1} → statement M
+rank_pass_spec =
     tie.close
     (tie.spec
     invariant-loop

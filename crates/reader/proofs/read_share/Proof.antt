@@ -1,12 +1,12 @@
 -- Where no `K` stands there is none; where one does, the record that is read is a share and no other.
 use mathlib.Core.Path.{◌≡◌, sym, ◌∙◌, ap}
 use mathlib.Core.List.{[], ◌∷◌}
-use Rattle.rules.specs.Fields.{K, kind-byte, K-share}
+use Rattle.rules.specs.Fields.{K, kind_byte, K_share}
 use Rattle.rules.specs.Records as rules
 use Rattle.rules.specs.Reading.{thousandths, share_part}
-use Rattle.records.specs.Meaning.{meant-record, meant}
-use Rattle.reader.proofs.Found.{not-among, share-found}
-use Rattle.reader.proofs.OptionalLaws.{none-there, one-refused, one-read}
+use Rattle.records.specs.Meaning.{meant_record, meant}
+use Rattle.reader.proofs.Found.{not_among, share_found}
+use Rattle.reader.proofs.OptionalLaws.{none_there, one_refused, one_read}
 use borrow.Author.Rules.{rules}
 use Rattle.reader.proofs.read_share.Statement.{statement}
 use Rattle.reader.proofs.read_share.Tie as tie
@@ -15,8 +15,8 @@ kind-requires : tie.Need-kind-requires
 kind-requires c κs = search rules
 
 returns : tie.Need-returns
-unfolding share_part kind-byte
-returns c = none-there _ K _ _ _ _ (λ is. c.if1.true (c.before.kind.ensures ∙ is))
+unfolding share_part kind_byte
+returns c = none_there _ K _ _ _ _ (λ is. c.if1.true (c.before.kind.ensures ∙ is))
 
 read-share-requires : tie.Need-read-share-requires
 read-share-requires c κs = search rules
@@ -31,11 +31,11 @@ handed-up-requires : tie.Need-handed-up-requires
 handed-up-requires c κs = search rules
 
 returns-2 : tie.Need-returns-2
-unfolding share_part kind-byte
+unfolding share_part kind_byte
 returns-2 c =
     let answer = c.before.before.before in
     let there = answer.before in
-    one-refused _ K _ _ _ _ (sym there.before.kind.ensures ∙ there.if1.false) _ answer.read-share.ensures c.before.enum_told.given.1
+    one_refused _ K _ _ _ _ (sym there.before.kind.ensures ∙ there.if1.false) _ answer.read-share.ensures c.before.enum_told.given.1
     c.handed-up.ensures
 
 enum-known-found : tie.Need-enum-known-found
@@ -45,27 +45,27 @@ handed-up-requires-2 : tie.Need-handed-up-requires-2
 handed-up-requires-2 c κs = search rules
 
 -- What was found is the share that stands there.
-found-is : (c : tie.After-known-told) →
+found_is : (c : tie.After-known-told) →
     let a = c.before.before.before.before.before.before.before.args in
-    meant-record c.before.answer.given.0.1.0 ≡ rules.share (K-share a.s.now a.c.at)
-found-is c = share-found _ _ _ (sym (ap meant c.before.answer.given.1) ∙ c.before.before.before.read-share.ensures)
+    meant_record c.before.answer.given.0.1.0 ≡ rules.share (K_share a.s.now a.c.at)
+found_is c = share_found _ _ _ (sym (ap meant c.before.answer.given.1) ∙ c.before.before.before.read-share.ensures)
 
 returns-3 : tie.Need-returns-3
 returns-3 c =
     let found = c.before.before in
-    absurd (not-among (0 ∷ 1 ∷ 3 ∷ 4 ∷ 5 ∷ 6 ∷ 7 ∷ 8 ∷ 9 ∷ []) found.before.answer.given.0.1.0 (found-is found) tt c.before.match2.keys2)
+    absurd (not_among (0 ∷ 1 ∷ 3 ∷ 4 ∷ 5 ∷ 6 ∷ 7 ∷ 8 ∷ 9 ∷ []) found.before.answer.given.0.1.0 (found_is found) tt c.before.match2.keys2)
 
 returns-4 : tie.Need-returns-4
-unfolding share_part kind-byte
+unfolding share_part kind_byte
 returns-4 c =
     let found = c.before.before.before in
     let answer = found.before.before.before in
     let there = answer.before in
-    let is = ap meant-record (sym c.before.found.given.1) ∙ found-is found in
-    one-read _ K _ _ _ _ (sym there.before.kind.ensures ∙ there.if1.false) _ answer.read-share.ensures found.before.answer.given.1 (ap thousandths cc)
+    let is = ap meant_record (sym c.before.found.given.1) ∙ found_is found in
+    one_read _ K _ _ _ _ (sym there.before.kind.ensures ∙ there.if1.false) _ answer.read-share.ensures found.before.answer.given.1 (ap thousandths cc)
 
-pub read-share-spec : {M : Type 1} → statement M
-read-share-spec =
+pub read_share_spec : {M : Type 1} → statement M
+read_share_spec =
     tie.close
     (tie.spec
     kind-requires

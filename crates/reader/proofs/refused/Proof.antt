@@ -15,5 +15,5 @@ returns c = rw c.before.passed.given.1
 returns-2 : tie.Need-returns-2
 returns-2 c = rw c.before.passed2.given.1
 
-pub refused-spec : {M : Type 1} → statement M
-refused-spec = tie.close (tie.spec enum-known-passed enum-known-passed-2 returns returns-2)
+pub refused_spec : {M : Type 1} → statement M
+refused_spec = tie.close (tie.spec enum-known-passed enum-known-passed-2 returns returns-2)

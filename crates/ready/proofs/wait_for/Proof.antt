@@ -3,7 +3,7 @@ use Prim.Native.Nat.{◌≤◌, ◌-◌, max}
 use mathlib.Core.Path.{◌≡◌, ap, ◌∙◌}
 use Rattle.laws.specs.Stores.{at}
 use Rattle.ready.specs.Ready.{WaitedFor}
-use Rattle.ready.specs.ReadyLaws.{waited-none, waited-more}
+use Rattle.ready.specs.ReadyLaws.{waited_none, waited_more}
 use borrow.Author.Rules.{rules}
 use native.Mathlib.Omega.{arith}
 use Rattle.ready.proofs.wait_for.Statement.{statement}
@@ -16,7 +16,7 @@ abbrev decreases-loop : tie.decreases-loop
 decreases-loop ready₀ m on here across j₀ ready j = m - j
 
 loop-holds : tie.Need-loop-init invariant-loop decreases-loop
-loop-holds c = (omega arith, waited-none)
+loop-holds c = (omega arith, waited_none)
 
 mul-larger : tie.Need-overflow-mul-larger invariant-loop decreases-loop
 mul-larger c = search rules
@@ -47,7 +47,7 @@ loop-again c =
     let pre = c.before.before.before.before.before.requires in
     let loop = c.before.before.before.before.loop in
     let larger = c.larger.ensures ∙ ap (max (at loop.ready loop.j)) c.before.either.ensures in
-    (omega arith, waited-more loop.invariant.1 (omega (arith, pre.1)) larger)
+    (omega arith, waited_more loop.invariant.1 (omega (arith, pre.1)) larger)
 
 returns : tie.Need-returns invariant-loop decreases-loop
 returns c =
@@ -56,8 +56,8 @@ returns c =
     let passed : loop.j ≡ a.m = omega arith in
     rw passed at loop.invariant.1
 
-pub wait-for-spec : {M : Type 1} → statement M
-wait-for-spec =
+pub wait_for_spec : {M : Type 1} → statement M
+wait_for_spec =
     tie.close
     (tie.spec
     invariant-loop

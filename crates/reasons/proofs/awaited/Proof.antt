@@ -5,7 +5,7 @@ use Rattle.rules.specs.Workflow.{workflow}
 use Rattle.rules.specs.Start.{arrival}
 use Rattle.laws.specs.Tests.{cond_either}
 use Rattle.laws.specs.Stores.{at}
-use Rattle.lookup.specs.Views.{view-in-range}
+use Rattle.lookup.specs.Views.{view_in_range}
 use borrow.Author.Rules.{rules}
 use native.Mathlib.Omega.{arith}
 use Rattle.reasons.proofs.awaited.Statement.{statement}
@@ -17,23 +17,23 @@ from-requires c κs = search rules
 transfer-requires : tie.Need-transfer-requires
 transfer-requires c κs = search rules
 
-from-below : (c : tie.After-transfer) → c.before.from.result < 64
+from_below : (c : tie.After-transfer) → c.before.from.result < 64
 unfolding workflow
-from-below c =
+from_below c =
     let start = c.before.before.before in
-    omega (arith, c.before.from.ensures.1, (view-in-range start.args.s.now start.args.v start.requires.0).tasks-in)
+    omega (arith, c.before.from.ensures.1, (view_in_range start.args.s.now start.args.v start.requires.0).tasks_in)
 
 mul-arrival : tie.Need-overflow-mul-arrival
-mul-arrival c = omega (arith, from-below c)
+mul-arrival c = omega (arith, from_below c)
 
 element-copy-out-arrival : tie.Need-element-copy-out-arrival
-element-copy-out-arrival c = from-below c
+element-copy-out-arrival c = from_below c
 
 mul-either : tie.Need-overflow-mul-either
-mul-either c = omega (arith, from-below c.before)
+mul-either c = omega (arith, from_below c.before)
 
 element-copy-out-either : tie.Need-element-copy-out-either
-element-copy-out-either c = from-below c.before
+element-copy-out-either c = from_below c.before
 
 either-requires : tie.Need-either-requires
 either-requires c κs = search rules
@@ -63,8 +63,8 @@ returns c =
     let from = c.before.before.before.before.before.before.from in
     rw (c.either2.ensures, either.ensures, from.ensures.0, transfer.ensures.0, c.before.to.ensures.0)
 
-pub awaited-spec : {M : Type 1} → statement M
-awaited-spec =
+pub awaited_spec : {M : Type 1} → statement M
+awaited_spec =
     tie.close
     (tie.spec
     from-requires

@@ -1,12 +1,12 @@
 -- By the three tests.
 use borrow.Author.Tests.{eq-eqb, ne_eqb}
-use Rattle.rules.specs.Why.{meets-row}
+use Rattle.rules.specs.Why.{meets_row}
 use borrow.Author.Rules.{rules}
 use Rattle.reasons.proofs.meets_row.Statement.{statement}
 use Rattle.reasons.proofs.meets_row.Tie as tie
 
 returns : tie.Need-returns
-unfolding meets-row
+unfolding meets_row
 returns c = rw (eq-eqb _ _ c.if1.true)
 
 mul-if2 : tie.Need-overflow-mul-if2
@@ -22,7 +22,7 @@ element-copy-out-if2-2 : tie.Need-element-copy-out-if2-2
 element-copy-out-if2-2 c = search rules
 
 returns-2 : tie.Need-returns-2
-unfolding meets-row
+unfolding meets_row
 returns-2 c = rw (ne_eqb _ _ c.before.before.before.if1.false, ne_eqb _ _ c.if2.true)
 
 add-overlaps : tie.Need-overflow-add-overlaps
@@ -44,13 +44,13 @@ overlaps-requires : tie.Need-overlaps-requires
 overlaps-requires c κs = search rules
 
 returns-3 : tie.Need-returns-3
-unfolding meets-row
+unfolding meets_row
 returns-3 c =
     let two = c.before.before.before in
     rw (ne_eqb _ _ two.before.before.before.if1.false, eq-eqb _ _ two.if2.false) c.overlaps.ensures
 
-pub meets-row-spec : {M : Type 1} → statement M
-meets-row-spec =
+pub meets_row_spec : {M : Type 1} → statement M
+meets_row_spec =
     tie.close
     (tie.spec
     returns

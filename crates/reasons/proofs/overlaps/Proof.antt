@@ -14,5 +14,5 @@ returns : tie.Need-returns
 unfolding overlap
 returns c = rw (← c.before.larger.ensures, ← c.smaller.ensures)
 
-pub overlaps-spec : {M : Type 1} → statement M
-overlaps-spec = tie.close (tie.spec larger-requires smaller-requires returns)
+pub overlaps_spec : {M : Type 1} → statement M
+overlaps_spec = tie.close (tie.spec larger-requires smaller-requires returns)

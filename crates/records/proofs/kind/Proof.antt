@@ -17,5 +17,5 @@ returns-2 : tie.Need-returns-2
 unfolding byte
 returns-2 c = sym (get_or-eq_default c.before.args.s.now 0 c.if1.false)
 
-pub kind-spec : {M : Type 1} → statement M
-kind-spec = tie.close (tie.spec shared-slice-read-result returns returns-2)
+pub kind_spec : {M : Type 1} → statement M
+kind_spec = tie.close (tie.spec shared-slice-read-result returns returns-2)

@@ -3,9 +3,9 @@ use mathlib.Core.Path.{◌≡◌}
 use Prim.Native.Nat.{◌+◌, ◌≤◌}
 use mathlib.Core.Bool.{not}
 use lib.ListN.{length}
-use Rattle.rules.specs.Fields.{H, kind-byte, body, size, H-tasks, H-processors, H-budget}
-use Rattle.rules.specs.Records.{unless, first-fault, answered, header, header_at}
-use Rattle.records.proofs.Laws.{refused-at-opening, answered-by-its-own, last-check}
+use Rattle.rules.specs.Fields.{H, kind_byte, body, size, H_tasks, H_processors, H_budget}
+use Rattle.rules.specs.Records.{unless, first_fault, answered, header, header_at}
+use Rattle.records.proofs.Laws.{refused_at_opening, answered_by_its_own, last_check}
 use native.Mathlib.Omega.{arith}
 use borrow.Author.Rules.{rules}
 use Rattle.records.proofs.read_header.Statement.{statement}
@@ -15,12 +15,12 @@ opening-fault-requires : tie.Need-opening-fault-requires
 opening-fault-requires c κs = search rules
 
 returns : tie.Need-returns
-unfolding header_at kind-byte size body
-returns c = refused-at-opening _ _ H c.before.opening-fault.ensures.0 _ _ c.if1.true
+unfolding header_at kind_byte size body
+returns c = refused_at_opening _ _ H c.before.opening_fault.ensures.0 _ _ c.if1.true
 
 -- The record is whole.
 whole : (c : tie.Else1) → let a = c.before.before.before.args in a.c.at + 7 ≤ length a.s.now
-whole c = c.before.opening-fault.ensures.1 c.if1.false
+whole c = c.before.opening_fault.ensures.1 c.if1.false
 
 field-requires : tie.Need-field-requires
 field-requires c κs = omega (arith, whole c)
@@ -35,27 +35,27 @@ outside-requires : tie.Need-outside-requires
 outside-requires c κs = search rules
 
 returns-2 : tie.Need-returns-2
-unfolding header_at H-tasks unless first-fault answered kind-byte size body
+unfolding header_at H_tasks unless first_fault answered kind_byte size body
 returns-2 c =
     let opened = c.before.before.before.before.before in
-    answered-by-its-own _ _ H opened.before.opening-fault.ensures.0 _ _ opened.if1.false
+    answered_by_its_own _ _ H opened.before.opening_fault.ensures.0 _ _ opened.if1.false
     (simp (← c.before.before.before.before.field.ensures.0, c.before.outside.ensures, c.if2.true))
 
 outside-requires-2 : tie.Need-outside-requires-2
 outside-requires-2 c κs = search rules
 
 returns-3 : tie.Need-returns-3
-unfolding header_at H-tasks H-processors unless first-fault answered kind-byte size body
+unfolding header_at H_tasks H_processors unless first_fault answered kind_byte size body
 returns-3 c =
-    let in-range = c.before.before in
-    let fields = in-range.before.before in
+    let in_range = c.before.before in
+    let fields = in_range.before.before in
     let opened = fields.before.before.before in
-    answered-by-its-own _ _ H opened.before.opening-fault.ensures.0 _ _ opened.if1.false
+    answered_by_its_own _ _ H opened.before.opening_fault.ensures.0 _ _ opened.if1.false
     (simp (
       ← fields.before.before.field.ensures.0,
       ← fields.before.field2.ensures.0,
-      in-range.before.outside.ensures,
-      in-range.if2.false,
+      in_range.before.outside.ensures,
+      in_range.if2.false,
       c.before.outside2.ensures,
       c.if3.true,
     ))
@@ -64,43 +64,43 @@ outside-requires-3 : tie.Need-outside-requires-3
 outside-requires-3 c κs = search rules
 
 -- With tasks and processors in range, the budget decides.
-by-budget : (c : tie.After-outside3) →
+by_budget : (c : tie.After-outside3) →
     let fields = c.before.before.before.before.before in
     let a = fields.before.before.before.before.before.before.args in
     answered (unless (not c.outside3.result) 4) a.c.at (a.c.at + 7)
     (header fields.before.before.field.result fields.before.field2.result fields.four_bytes.result) ≡
     header_at a.s.now a.c.at
-unfolding header_at H-tasks H-processors H-budget unless first-fault kind-byte size body
-by-budget c =
-    let in-range = c.before.before.before in
-    let fields = in-range.before.before in
+unfolding header_at H_tasks H_processors H_budget unless first_fault kind_byte size body
+by_budget c =
+    let in_range = c.before.before.before in
+    let fields = in_range.before.before in
     let opened = fields.before.before.before in
-    answered-by-its-own _ _ H opened.before.opening-fault.ensures.0 _ _ opened.if1.false
+    answered_by_its_own _ _ H opened.before.opening_fault.ensures.0 _ _ opened.if1.false
     (simp (
       ← fields.before.before.field.ensures.0,
       ← fields.before.field2.ensures.0,
       ← fields.four_bytes.ensures,
-      in-range.before.outside.ensures,
-      in-range.if2.false,
+      in_range.before.outside.ensures,
+      in_range.if2.false,
       c.before.before.outside2.ensures,
       c.before.if3.false,
       c.outside3.ensures,
     )
-    (last-check _ _ _ _))
+    (last_check _ _ _ _))
 
 returns-4 : tie.Need-returns-4
 unfolding unless answered
-returns-4 c = rw c.if4.true at (by-budget c.before)
+returns-4 c = rw c.if4.true at (by_budget c.before)
 
 add-t13 : tie.Need-overflow-add-t13
 add-t13 c = omega (arith, whole c.before.before.before.before.before.before.before.before.before)
 
 returns-5 : tie.Need-returns-5
 unfolding unless answered
-returns-5 c = rw c.if4.false at (by-budget c.before)
+returns-5 c = rw c.if4.false at (by_budget c.before)
 
-pub read-header-spec : {M : Type 1} → statement M
-read-header-spec =
+pub read_header_spec : {M : Type 1} → statement M
+read_header_spec =
     tie.close
     (tie.spec
     opening-fault-requires

@@ -3,9 +3,9 @@ use mathlib.Core.Path.{◌≡◌}
 use Prim.Native.Nat.{◌+◌, ◌≤◌}
 use mathlib.Core.Bool.{not}
 use lib.ListN.{length}
-use Rattle.rules.specs.Fields.{Q, kind-byte, body, size, P-processor, P-price, Q-minimum}
-use Rattle.rules.specs.Records.{unless, answered, minimum, price-checks, minimum-at}
-use Rattle.records.proofs.Laws.{refused-so-far, answered-by-more, last-check}
+use Rattle.rules.specs.Fields.{Q, kind_byte, body, size, P_processor, P_price, Q_minimum}
+use Rattle.rules.specs.Records.{unless, answered, minimum, price_checks, minimum_at}
+use Rattle.records.proofs.Laws.{refused_so_far, answered_by_more, last_check}
 use native.Mathlib.Omega.{arith}
 use borrow.Author.Rules.{rules}
 use Rattle.records.proofs.read_minimum.Statement.{statement}
@@ -15,8 +15,8 @@ price-fault-requires : tie.Need-price-fault-requires
 price-fault-requires c κs = search rules
 
 returns : tie.Need-returns
-unfolding minimum-at price-checks kind-byte size body
-returns c = refused-so-far _ _ Q _ c.before.price-fault.ensures.0 _ _ c.if1.true
+unfolding minimum_at price_checks kind_byte size body
+returns c = refused_so_far _ _ Q _ c.before.price-fault.ensures.0 _ _ c.if1.true
 
 -- The record is whole.
 whole : (c : tie.Else1) → let a = c.before.before.before.args in a.c.at + 5 ≤ length a.s.now
@@ -35,38 +35,38 @@ outside-requires : tie.Need-outside-requires
 outside-requires c κs = search rules
 
 -- The minimum decides.
-by-minimum : (c : tie.After-outside) →
+by_minimum : (c : tie.After-outside) →
     let fields = c.before in
     let a = fields.before.before.before.before.before.before.args in
     answered (unless (not c.outside.result) 4) a.c.at (a.c.at + 5)
     (minimum fields.before.before.field.result fields.before.field2.result fields.two_bytes.result) ≡
-    minimum-at a.s.now a.c.at a.due
-unfolding minimum-at price-checks P-processor P-price Q-minimum kind-byte size body
-by-minimum c =
+    minimum_at a.s.now a.c.at a.due
+unfolding minimum_at price_checks P_processor P_price Q_minimum kind_byte size body
+by_minimum c =
     let fields = c.before in
     let opened = fields.before.before.before in
-    answered-by-more _ _ Q _ opened.before.price-fault.ensures.0 _ _ opened.if1.false
+    answered_by_more _ _ Q _ opened.before.price-fault.ensures.0 _ _ opened.if1.false
     (simp (
       ← fields.before.before.field.ensures.0,
       ← fields.before.field2.ensures.0,
       ← fields.two_bytes.ensures.0,
       c.outside.ensures,
     )
-    (last-check _ _ _ _))
+    (last_check _ _ _ _))
 
 returns-2 : tie.Need-returns-2
 unfolding unless answered
-returns-2 c = rw c.if2.true at (by-minimum c.before)
+returns-2 c = rw c.if2.true at (by_minimum c.before)
 
 add-t10 : tie.Need-overflow-add-t10
 add-t10 c = omega (arith, whole c.before.before.before.before.before)
 
 returns-3 : tie.Need-returns-3
 unfolding unless answered
-returns-3 c = rw c.if2.false at (by-minimum c.before)
+returns-3 c = rw c.if2.false at (by_minimum c.before)
 
-pub read-minimum-spec : {M : Type 1} → statement M
-read-minimum-spec =
+pub read_minimum_spec : {M : Type 1} → statement M
+read_minimum_spec =
     tie.close
     (tie.spec
     price-fault-requires

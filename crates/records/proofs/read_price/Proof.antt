@@ -2,9 +2,9 @@
 use Prim.Native.Nat.{◌+◌, ◌≤◌}
 use mathlib.Core.List.{[]}
 use lib.ListN.{length}
-use Rattle.rules.specs.Fields.{P, kind-byte, body, size, P-processor, P-price}
-use Rattle.rules.specs.Records.{first-fault, answered, price-checks, price-at}
-use Rattle.records.proofs.Laws.{refused-so-far, answered-by-more}
+use Rattle.rules.specs.Fields.{P, kind_byte, body, size, P_processor, P_price}
+use Rattle.rules.specs.Records.{first_fault, answered, price_checks, price_at}
+use Rattle.records.proofs.Laws.{refused_so_far, answered_by_more}
 use native.Mathlib.Omega.{arith}
 use borrow.Author.Rules.{rules}
 use Rattle.records.proofs.read_price.Statement.{statement}
@@ -14,8 +14,8 @@ price-fault-requires : tie.Need-price-fault-requires
 price-fault-requires c κs = search rules
 
 returns : tie.Need-returns
-unfolding price-at price-checks kind-byte size body
-returns c = refused-so-far _ _ P _ c.before.price-fault.ensures.0 [] _ c.if1.true
+unfolding price_at price_checks kind_byte size body
+returns c = refused_so_far _ _ P _ c.before.price-fault.ensures.0 [] _ c.if1.true
 
 -- The record is whole.
 whole : (c : tie.Else1) → let a = c.before.before.before.args in a.c.at + 3 ≤ length a.s.now
@@ -31,13 +31,13 @@ add-t9 : tie.Need-overflow-add-t9
 add-t9 c = omega (arith, whole c.before.before)
 
 returns-2 : tie.Need-returns-2
-unfolding price-at price-checks P-processor P-price first-fault answered kind-byte size body
+unfolding price_at price_checks P_processor P_price first_fault answered kind_byte size body
 returns-2 c =
     let opened = c.before.before in
-    answered-by-more _ _ P _ opened.before.price-fault.ensures.0 [] _ opened.if1.false
+    answered_by_more _ _ P _ opened.before.price-fault.ensures.0 [] _ opened.if1.false
     (rw (c.before.field.ensures.0, c.field2.ensures.0))
 
-pub read-price-spec : {M : Type 1} → statement M
-read-price-spec =
+pub read_price_spec : {M : Type 1} → statement M
+read_price_spec =
     tie.close
     (tie.spec price-fault-requires returns field-requires field-requires-2 add-t9 returns-2)

@@ -39,10 +39,10 @@ use denote.Triple.Table.{entered, cited}
 use denote.Triple.Walked.{Stays, stay_dropped, stay_none_slice, gave_slice, Goes-dropped, Goes-none_slice, Goes-gave_slice}
 use denote.Triple.Walked.{says, walk_of, Walks, ends_at, walked, walk_Meets}
 use denote.Exit.{yes}
-use Rattle.rules.specs.Answer.{outcome-asked}
+use Rattle.rules.specs.Answer.{outcome_asked}
 use Rattle.laws.specs.Overwritten.{overwritten}
 use Rattle.choosing.specs.declared.Method.{Method}
-use Rattle.choosing.specs.Named.{meant-method}
+use Rattle.choosing.specs.Named.{meant_method}
 use Rattle.choosing.specs.contracts.Method as method-type
 use Rattle.choosing.proofs.Method.TheLaws as method-laws
 use Rattle.planner.specs.declared.Answer.{Answer}
@@ -58,9 +58,9 @@ use Rattle.asked.proofs.plan.Symbol.{name as #core}
 use Rattle.asked.proofs.plan.Met as core-thm
 use Rattle.rows.specs.declared.Row.{Row}
 use Rattle.rows.specs.Planned.{row_at, PlannedRows}
-use Rattle.rows.specs.Stored.{due-in-reach, rows-planned}
-use Rattle.rows.proofs.Locals.{empty, holds, env, held, allocs-all, behind, frees_all, of-local, of_field, sets, sets-returned}
-use Rattle.rows.proofs.Calls.{contractOf, calls-met}
+use Rattle.rows.specs.Stored.{due_in_reach, rows_planned}
+use Rattle.rows.proofs.Locals.{empty, holds, env, held, allocs_all, behind, frees_all, of_local, of_field, sets, sets_returned}
+use Rattle.rows.proofs.Calls.{contractOf, calls_met}
 use Rattle.rows.specs.contracts.Row as row_type
 use Rattle.rows.specs.contracts.rows_due as due
 use Rattle.rows.proofs.rows_due.Symbol as due-def
@@ -107,8 +107,8 @@ locals =
 abbrev function : Fn
 function = record { lifetimes = 2; outlives = []; params = 3; locals = locals; body = text.t-1 }
 
-function-is : code.function ≡ function
-function-is = refl
+function_is : code.function ≡ function
+function_is = refl
 
 module _ {M : Type 1} {𝓤 : Ura M} (𝓛 : Logic 𝓤) (mem : Memory → SProp 𝓤) (run : Routine → Fun 𝓤) where
   open 𝓛 use {H}
@@ -127,10 +127,10 @@ module _ {M : Type 1} {𝓤 : Ura M} (𝓛 : Logic 𝓤) (mem : Memory → SProp
 
   -- The four functions meet their contracts.
   pub record Met (C : Calls 𝓤 H) : Type 1 where
-    pub core-met : Triple 𝓤 (C #core) Core
-    pub due-met : Triple 𝓤 (C #due) Due
-    pub store-met : Triple 𝓤 (C #store) Store
-    pub told-met : Triple 𝓤 (C #told) Told
+    pub core_met : Triple 𝓤 (C #core) Core
+    pub due_met : Triple 𝓤 (C #due) Due
+    pub store_met : Triple 𝓤 (C #store) Store
+    pub told_met : Triple 𝓤 (C #told) Told
 
 module _ {M : Type 1} {𝓤 : Ura M} (𝓛 : Logic 𝓤) (mem : Memory → SProp 𝓤) (run : Routine → Fun 𝓤)
     (κ₀ κ₁ : Lft) (q₀ q₁ : Share) (c : MutBor (List ℕ)) (asked : Method) (b o : ℕ) (γ : GName) (ys : List Row) where
@@ -173,7 +173,7 @@ module _ {M : Type 1} {𝓤 : Ura M} (𝓛 : Logic 𝓤) (mem : Memory → SProp
   abbrev Exit : Answer → Val → List Row → List (Item 𝓤)
   Exit r u zs = ‵ ((answer.the_row).own_val r (u ∷ [])) ∷ ‵ (flft κ₀ q₀) ∷ ‵ (flft κ₁ q₁) ∷ ‵ Request ∷ ‵ (finally row_type.the_row γ zs) ∷ []
 
-  exits : (r : Answer) (u : Val) (zs : List Row) → length zs ≡ m → PlannedRows (meant-method asked) c.now ys zs r → ent 𝓤 (⋆ 𝓛 (Exit r u zs)) (Post u)
+  exits : (r : Answer) (u : Val) (zs : List Row) → length zs ≡ m → PlannedRows (meant_method asked) c.now ys zs r → ent 𝓤 (⋆ 𝓛 (Exit r u zs)) (Post u)
   exits r u zs same planned =
       qed 𝓛 (Exit r u zs) ∵
       suffices ! _ (ends_at 𝓛 this.ended stayed (this.clauses 𝓛 mem run) bound u r (tt, (tt, (zs, tt))) (tt, (tt, (same, tt)))) $
@@ -181,12 +181,12 @@ module _ {M : Type 1} {𝓤 : Ura M} (𝓛 : Logic 𝓤) (mem : Memory → SProp
       nothing ! $ move ! (3 ∷ 0 ∷ []) $ fjoin ! $ nothing ! $ fjoin ! $ move ! (2 ∷ 0 ∷ []) $ fjoin ! $ frame ! $ done !
 
   -- What each function is passed, and asks.
-  abbrev to-core : (Core 𝓛 mem run).Ghost
-  to-core = (((κ₀, tt), (q₀, tt), tt, (c, (asked, (m, tt))), (cv ∷ [], (av ∷ [], (vint w64 m ∷ [], tt)))), tt)
+  abbrev to_core : (Core 𝓛 mem run).Ghost
+  to_core = (((κ₀, tt), (q₀, tt), tt, (c, (asked, (m, tt))), (cv ∷ [], (av ∷ [], (vint w64 m ∷ [], tt)))), tt)
 
-  asks-core : Is method-type.the_row asked (av ∷ []) → m < 2 ^ 64
-      → ent 𝓤 (⋆ 𝓛 (‵ (flft κ₀ q₀) ∷ ‵ Request ∷ [])) (sep 𝓤 ((Core 𝓛 mem run).pre to-core) (sem 𝓛 Request))
-  asks-core is-asked fits =
+  asks_core : Is method-type.the_row asked (av ∷ []) → m < 2 ^ 64
+      → ent 𝓤 (⋆ 𝓛 (‵ (flft κ₀ q₀) ∷ ‵ Request ∷ [])) (sep 𝓤 ((Core 𝓛 mem run).pre to_core) (sem 𝓛 Request))
+  asks_core is-asked fits =
       qed 𝓛 (‵ (flft κ₀ q₀) ∷ ‵ Request ∷ []) ∵ move ! (1 ∷ []) $
       use1 𝓛 (‵ Request ⊛ ‵ Request) ((shr_slice_copy 𝓛 (named 0) κ₀ u8).twice c (cv ∷ [])) $ split ! $
       nothing ! $ owned ! usize (Is usize) (uint_Makes 𝓛 w64) m _ (refl, fits) $ fjoin ! $
@@ -195,25 +195,25 @@ module _ {M : Type 1} {𝓤 : Ura M} (𝓛 : Logic 𝓤) (mem : Memory → SProp
       nothing ! $ move ! (3 ∷ 0 ∷ []) $ join ! $ move ! (0 ∷ 1 ∷ []) $ join ! $ nothing ! $ move ! (1 ∷ 0 ∷ []) $ join ! $ frame ! $ done !
 
   module _ (p : Planning) (v : Val) (is-p : Is planning.the_row p (v ∷ [])) where
-    abbrev to-due : (Due 𝓛 mem run).Ghost
-    to-due = ((tt, tt, tt, (p, tt), (v ∷ [], tt)), tt)
+    abbrev to_due : (Due 𝓛 mem run).Ghost
+    to_due = ((tt, tt, tt, (p, tt), (v ∷ [], tt)), tt)
 
-    abbrev to-told : (Told 𝓛 mem run).Ghost
-    to-told = ((tt, tt, tt, (p, tt), (v ∷ [], tt)), tt)
+    abbrev to_told : (Told 𝓛 mem run).Ghost
+    to_told = ((tt, tt, tt, (p, tt), (v ∷ [], tt)), tt)
 
     -- Both ask only what the planning owns, which is had for nothing.
-    asks-planning : ent 𝓤 (emp 𝓤) (sep 𝓤 (sep 𝓤 (emp 𝓤) (sem 𝓛 (owns (planning.the_row ∷ []) (p, tt) (v ∷ [], tt)))) (emp 𝓤))
-    asks-planning =
+    asks_planning : ent 𝓤 (emp 𝓤) (sep 𝓤 (sep 𝓤 (emp 𝓤) (sem 𝓛 (owns (planning.the_row ∷ []) (p, tt) (v ∷ [], tt)))) (emp 𝓤))
+    asks_planning =
         qed 𝓛 [] ∵ nothing ! $ nothing ! $ nothing ! $
         owned ! planning.the_row (Is planning.the_row) (struct.makes planning.the_type planning-laws.the_plain 𝓛) p _ is-p $
         fjoin ! $ move ! (1 ∷ 0 ∷ []) $ join ! $ join ! $ done !
 
     module _ (n : ℕ) (w : Val) (is-n : Is usize n (w ∷ [])) where
-      abbrev to-store : (Store 𝓛 mem run).Ghost
-      to-store = (((κ₁, tt), (q₁, tt), tt, (x, (n, (p, tt))), (xv ∷ [], (w ∷ [], (v ∷ [], tt)))), tt)
+      abbrev to_store : (Store 𝓛 mem run).Ghost
+      to_store = (((κ₁, tt), (q₁, tt), tt, (x, (n, (p, tt))), (xv ∷ [], (w ∷ [], (v ∷ [], tt)))), tt)
 
-      asks-store : (n ≤ m) × (n ≤ 64) → ent 𝓤 (⋆ 𝓛 (‵ (flft κ₁ q₁) ∷ ‵ Rows ∷ [])) ((Store 𝓛 mem run).pre to-store)
-      asks-store reach =
+      asks_store : (n ≤ m) × (n ≤ 64) → ent 𝓤 (⋆ 𝓛 (‵ (flft κ₁ q₁) ∷ ‵ Rows ∷ [])) ((Store 𝓛 mem run).pre to_store)
+      asks_store reach =
           qed 𝓛 (‵ (flft κ₁ q₁) ∷ ‵ Rows ∷ []) ∵ says ! reach $
           nothing ! $ owned ! planning.the_row (Is planning.the_row) (struct.makes planning.the_type planning-laws.the_plain 𝓛) p _ is-p $
           fjoin ! $ owned ! usize (Is usize) (uint_Makes 𝓛 w64) n _ is-n $ fjoin ! $ move ! (2 ∷ 0 ∷ []) $ fjoin ! $
@@ -229,58 +229,58 @@ module _ {M : Type 1} {𝓤 : Ura M} (𝓛 : Logic 𝓤) (mem : Memory → SProp
           (runs C Λ En text.t-1 (at_ret En Post))
       body =
           sets ! 18 (of_opd ! (of_field ! 18 refl (sub ! 1 refl (whole !)))) refl (tt, record { fits = omega (arith, m-fits, c-fits) }) $
-          move ! (20 ∷ 22 ∷ []) $ use2 𝓛 (raw ((Core 𝓛 mem run).pre to-core) ⊛ ‵ Request) (asks-core is-asked m-fits) $ split ! $
-          calls-met ! core.ended (core.clauses 𝓛 mem run) fm met.core-met to-core
-          (λ p ws. PlanOf (outcome-asked (meant-method asked) c.now m) p) (λ p ws. refl)
-          (and_then ! (of-local ! 20 refl) (and_then ! (of-local ! 20 refl) (and_then ! (of-local ! 20 refl) (no_more !))))
+          move ! (20 ∷ 22 ∷ []) $ use2 𝓛 (raw ((Core 𝓛 mem run).pre to_core) ⊛ ‵ Request) (asks_core is-asked m-fits) $ split ! $
+          calls_met ! core.ended (core.clauses 𝓛 mem run) fm met.core_met to_core
+          (λ p ws. PlanOf (outcome_asked (meant_method asked) c.now m) p) (λ p ws. refl)
+          (and_then ! (of_local ! 20 refl) (and_then ! (of_local ! 20 refl) (and_then ! (of_local ! 20 refl) (no_more !))))
           (λ v p ws planned is-p. drop ! $ drop ! $ use1 𝓛 (‵ (flft κ₀ q₀) ⊛ ‵ ftrue) (id⊢ 𝓤 _) $ split ! $ move ! (1 ∷ []) $ drop ! $
           -- the first token; the request; the locals; the second token; the rows
-          sets-returned ! 20 refl ((struct.lawful planning.the_type planning-laws.the_laws 𝓛).typed p _ is-p).0 $
-          use0 𝓛 (raw ((Due 𝓛 mem run).pre (to-due p v is-p))) (asks-planning p v is-p) $
-          calls-met ! due.ended (due.clauses 𝓛 mem run) fm met.due-met (to-due p v is-p) (λ n ws. n ≡ rows_told p.answer) (λ n ws. refl)
-          (and_then ! (of-local ! 21 refl) (no_more !))
+          sets_returned ! 20 refl ((struct.lawful planning.the_type planning-laws.the_laws 𝓛).typed p _ is-p).0 $
+          use0 𝓛 (raw ((Due 𝓛 mem run).pre (to_due p v is-p))) (asks_planning p v is-p) $
+          calls_met ! due.ended (due.clauses 𝓛 mem run) fm met.due_met (to_due p v is-p) (λ n ws. n ≡ rows_told p.answer) (λ n ws. refl)
+          (and_then ! (of_local ! 21 refl) (no_more !))
           (λ w n ws is-due is-n. drop ! $ drop ! $ drop ! $
-          sets-returned ! 20 refl ((uint_Lawful 𝓛 w64).typed n _ is-n).0 $
+          sets_returned ! 20 refl ((uint_Lawful 𝓛 w64).typed n _ is-n).0 $
           -- the rows are lent on
           sets ! 20 (addr ! (from ! (fld ! refl (hop ! (look_in ! 14 (sub ! 0 refl (whole !))) (stop !))))) refl (tt, tt) $
-          sets ! 20 (agg ! (and_then ! (of-local ! 20 refl) (and_then ! (of_field ! 20 refl (sub ! 1 refl (whole !))) (no_more !)))) refl
+          sets ! 20 (agg ! (and_then ! (of_local ! 20 refl) (and_then ! (of_field ! 20 refl (sub ! 1 refl (whole !))) (no_more !)))) refl
           (tt, (tt, (record { fits = m-fits }, tt))) $
           move ! (22 ∷ 23 ∷ []) $
-          use2 𝓛 (raw ((Store 𝓛 mem run).pre (to-store p v is-p n w is-n)))
-          (asks-store p v is-p n w is-n (due-in-reach (meant-method asked) c.now m planned is-due)) $
-          calls-met ! store.ended (store.clauses 𝓛 mem run) fm met.store-met (to-store p v is-p n w is-n)
+          use2 𝓛 (raw ((Store 𝓛 mem run).pre (to_store p v is-p n w is-n)))
+          (asks_store p v is-p n w is-n (due_in_reach (meant_method asked) c.now m planned is-due)) $
+          calls_met ! store.ended (store.clauses 𝓛 mem run) fm met.store_met (to_store p v is-p n w is-n)
           (λ r zs. zs.0 ≡ overwritten n (row_at p) ys) (λ r zs. refl)
-          (and_then ! (of-local ! 21 refl) (and_then ! (of-local ! 21 refl) (and_then ! (of-local ! 21 refl) (no_more !))))
+          (and_then ! (of_local ! 21 refl) (and_then ! (of_local ! 21 refl) (and_then ! (of_local ! 21 refl) (no_more !))))
           (λ u r zs stored is-r. drop ! $ fsplit ! $ fsplit ! $ move ! (1 ∷ []) $ feq_l ! (λ same. move ! (1 ∷ []) $ drop ! $ move ! (1 ∷ []) $
           use1 𝓛 (‵ (flft κ₁ q₁) ⊛ ‵ ftrue) (id⊢ 𝓤 _) $ split ! $ move ! (1 ∷ []) $ drop ! $
           -- the second token; what says the last rows; the first token; the request; the locals
-          sets-returned ! 22 refl ((Nothing-Lawful 𝓛).typed r _ is-r).0 $
-          use0 𝓛 (raw ((Told 𝓛 mem run).pre (to-told p v is-p))) (asks-planning p v is-p) $
-          calls-met ! told.ended (told.clauses 𝓛 mem run) fm met.told-met (to-told p v is-p) (λ r ws. r ≡ p.answer) (λ r ws. refl)
-          (and_then ! (of-local ! 23 refl) (no_more !))
+          sets_returned ! 22 refl ((Nothing-Lawful 𝓛).typed r _ is-r).0 $
+          use0 𝓛 (raw ((Told 𝓛 mem run).pre (to_told p v is-p))) (asks_planning p v is-p) $
+          calls_met ! told.ended (told.clauses 𝓛 mem run) fm met.told_met (to_told p v is-p) (λ r ws. r ≡ p.answer) (λ r ws. refl)
+          (and_then ! (of_local ! 23 refl) (no_more !))
           (λ u r ws is-told is-r. move ! (1 ∷ 2 ∷ []) $ drop ! $ drop ! $
           -- what the answer owns; the second token; what says the last rows; the first token; the request; the locals
-          sets-returned ! 23 refl ((enum.lawful answer.the_type answer-laws.the_laws 𝓛 tt).typed r _ is-r).0 $
+          sets_returned ! 23 refl ((enum.lawful answer.the_type answer-laws.the_laws 𝓛 tt).typed r _ is-r).0 $
           returns ! (look ! 23 refl) $ behind ! 5 $
           frees_all ! (holds _ ∷ holds _ ∷ holds _ ∷ holds _ ∷ holds _ ∷ holds _ ∷ holds _ ∷ holds _ ∷ holds _ ∷ holds _ ∷ []) $
-          move ! (0 ∷ 3 ∷ 1 ∷ 4 ∷ 2 ∷ []) $ by ! (exits r u zs.0 same (rows-planned (meant-method asked) c.now planned is-due stored is-told)))))))
+          move ! (0 ∷ 3 ∷ 1 ∷ 4 ∷ 2 ∷ []) $ by ! (exits r u zs.0 same (rows_planned (meant_method asked) c.now planned is-due stored is-told)))))))
 
     -- The parameters are passed, and the body runs.
-    walk-function : ent 𝓤 (on_entry 𝓛 this.signature (κ₀, (κ₁, tt)) (q₀, (q₁, tt)) a vals) (WpFn 𝓤 H C Λ function (cv ∷ av ∷ xv ∷ []) Post)
-    walk-function =
+    walk_function : ent 𝓤 (on_entry 𝓛 this.signature (κ₀, (κ₁, tt)) (q₀, (q₁, tt)) a vals) (WpFn 𝓤 H C Λ function (cv ∷ av ∷ xv ∷ []) Post)
+    walk_function =
         qed 𝓛
         ((‵ (flft κ₀ q₀) ⊛ (‵ (flft κ₁ q₁) ⊛ ‵ ftrue))
         ∷ ‵ (owns (ShrSlice (named 0) κ₀ u8 ∷ method-type.the_row ∷ MutSlice (named 1) κ₁ row_type.the_row ∷ []) a vals) ∷ []) ∵
         split ! $ move ! (1 ∷ []) $ split ! $ move ! (1 ∷ []) $ drop ! $ move ! (2 ∷ []) $ fsplit ! $ move ! (1 ∷ []) $ fsplit ! $ drop ! $ fsplit ! $
         move ! (1 ∷ []) $ drop ! $ move ! (3 ∷ 2 ∷ 1 ∷ 0 ∷ []) $ enter ! C Λ function (cv ∷ av ∷ xv ∷ []) _ $
-        allocs-all ! locals (λ l. params1 ! $ pass1 ! (init ! 16 refl (tt, (tt, (record { fits = c-fits }, tt)))) $
+        allocs_all ! locals (λ l. params1 ! $ pass1 ! (init ! 16 refl (tt, (tt, (record { fits = c-fits }, tt)))) $
         pass1 ! (init ! 14 refl ((enum.lawful method-type.the_type method-laws.the_laws 𝓛 tt).typed asked _ is-asked).0) $
         pass1 ! (init ! 12 refl (tt, (tt, (record { fits = m-fits }, tt)))) $ pass0 ! $ body l)
 
     walk : ent 𝓤 (on_entry 𝓛 this.signature (κ₀, (κ₁, tt)) (q₀, (q₁, tt)) a vals) (WpFn 𝓤 H C Λ code.function (cv ∷ av ∷ xv ∷ []) Post)
     walk =
         subst (λ (f : Fn). ent 𝓤 (on_entry 𝓛 this.signature (κ₀, (κ₁, tt)) (q₀, (q₁, tt)) a vals) (WpFn 𝓤 H C Λ f (cv ∷ av ∷ xv ∷ []) Post))
-        (sym function-is) walk-function
+        (sym function_is) walk_function
 
 module _ {M : Type 1} {𝓤 : Ura M} (𝓛 : Logic 𝓤) (mem : Memory → SProp 𝓤) (run : Routine → Fun 𝓤) (𝓣 : Tables 𝓤 𝓛.H)
     (met : Met 𝓛 mem run 𝓣.C) where
@@ -310,17 +310,17 @@ module _ {M : Type 1} {𝓤 : Ura M} (𝓛 : Logic 𝓤) (mem : Memory → SProp
       )
       (this.clauses 𝓛 mem run) (WpFn 𝓤 H 𝓣.C 𝓣.Λ code.function) (WpFn-mono 𝓤 H 𝓛.laws 𝓣 code.function) walks
 
-pub plan-spec : {M : Type 1} → stated.statement M
+pub plan_spec : {M : Type 1} → stated.statement M
 unfolding code.routine tables_of
-plan-spec 𝓤 𝓛 𝓜 𝓡 =
+plan_spec 𝓤 𝓛 𝓜 𝓡 =
     entered 𝓤 𝓛.H (triple_of 𝓛 this.signature (this.spec 𝓛 𝓜.mem 𝓡.run))
     (tables 𝓤 𝓛.H 𝓜 𝓡 code.env).C (tables 𝓤 𝓛.H 𝓜 𝓡 code.env).Λ #plan code.function (code.unfolded 𝓤 𝓛.H 𝓜 𝓡)
     (meets 𝓛 𝓜.mem 𝓡.run (tables_of 𝓤 𝓛.H 𝓜 (tables 𝓤 𝓛.H 𝓜 𝓡 code.env))
     (record {
-      core-met =
+      core_met =
           cited 𝓤 𝓛.H (Core 𝓛 𝓜.mem 𝓡.run) 𝓜 𝓡 code.env #core core-def.routine code.calls-asked::plan (core-thm.met 𝓤 𝓛 𝓜 𝓡);
-      due-met = cited 𝓤 𝓛.H (Due 𝓛 𝓜.mem 𝓡.run) 𝓜 𝓡 code.env #due due-def.routine code.calls-rows::rows-due (due-thm.met 𝓤 𝓛 𝓜 𝓡);
-      store-met =
+      due_met = cited 𝓤 𝓛.H (Due 𝓛 𝓜.mem 𝓡.run) 𝓜 𝓡 code.env #due due-def.routine code.calls-rows::rows_due (due-thm.met 𝓤 𝓛 𝓜 𝓡);
+      store_met =
           cited 𝓤 𝓛.H (Store 𝓛 𝓜.mem 𝓡.run) 𝓜 𝓡 code.env #store store-def.routine code.calls-rows::store (store-thm.met 𝓤 𝓛 𝓜 𝓡);
-      told-met = cited 𝓤 𝓛.H (Told 𝓛 𝓜.mem 𝓡.run) 𝓜 𝓡 code.env #told told-def.routine code.calls-rows::answer-of (told-thm.met 𝓤 𝓛 𝓜 𝓡);
+      told_met = cited 𝓤 𝓛.H (Told 𝓛 𝓜.mem 𝓡.run) 𝓜 𝓡 code.env #told told-def.routine code.calls-rows::answer_of (told-thm.met 𝓤 𝓛 𝓜 𝓡);
     }))

@@ -43,7 +43,7 @@ use denote.Triple.Table.{entered, cited}
 use denote.Triple.Walked.{says, Stays, stay_dropped, walk_of, Goes-dropped, Walks, ends_at, walked, walk_Meets}
 use denote.Exit.{yes}
 use Rattle.choosing.specs.declared.Method.{Method}
-use Rattle.choosing.specs.Named.{meant-method}
+use Rattle.choosing.specs.Named.{meant_method}
 use Rattle.choosing.specs.contracts.Method as method-type
 use Rattle.choosing.proofs.Method.TheLaws as method-laws
 use Rattle.planner.specs.declared.Answer.{Answer}
@@ -52,9 +52,9 @@ use Rattle.planner.proofs.Answer.TheLaws as answer-laws
 use Rattle.rows.specs.declared.Row.{Row}
 use Rattle.rows.specs.declared.WholePlan.{WholePlan}
 use Rattle.rows.specs.Planned.{PlannedRows, PlannedWhole}
-use Rattle.rows.proofs.Locals.{empty, holds, env, held, allocs-all, behind, frees_all, of-local, sets, sets-returned}
-use Rattle.rows.proofs.Calls.{contractOf, calls-met}
-use Rattle.rows.proofs.Arrays.{elements-of, array_again}
+use Rattle.rows.proofs.Locals.{empty, holds, env, held, allocs_all, behind, frees_all, of_local, sets, sets_returned}
+use Rattle.rows.proofs.Calls.{contractOf, calls_met}
+use Rattle.rows.proofs.Arrays.{elements_of, array_again}
 use Rattle.rows.specs.contracts.Row as row_type
 use Rattle.rows.proofs.Row.TheLaws as row_laws
 use Rattle.rows.specs.contracts.WholePlan as whole-type
@@ -97,11 +97,11 @@ room : Room row_type.the_row 64
 room = (lit< tt, lit< tt)
 
 module _ {M : Type 1} {𝓤 : Ura M} (𝓛 : Logic 𝓤) where
-  rows-make : Makes 𝓛 rows (Is rows)
-  rows-make = Array-Makes 𝓛 row_type.the_row (struct.makes row_type.the_type row_laws.the_plain 𝓛) 64
+  rows_make : Makes 𝓛 rows (Is rows)
+  rows_make = Array-Makes 𝓛 row_type.the_row (struct.makes row_type.the_type row_laws.the_plain 𝓛) 64
 
-  rows-typed : (zs : List Row) (v : Val) → Is rows zs (v ∷ []) → T (has_ty array v) × WT v
-  rows-typed zs v is =
+  rows_typed : (zs : List Row) (v : Val) → Is rows zs (v ∷ []) → T (has_ty array v) × WT v
+  rows_typed zs v is =
       ((Array-Lawful 𝓛 row_type.the_row (struct.lawful row_type.the_type row_laws.the_laws 𝓛) 64).typed zs _ is).0
 
 abbrev locals : List Local
@@ -115,8 +115,8 @@ locals =
 abbrev function : Fn
 function = record { lifetimes = 1; outlives = []; params = 3; locals = locals; body = text.t-1 }
 
-function-is : code.function ≡ function
-function-is = refl
+function_is : code.function ≡ function
+function_is = refl
 
 module _ {M : Type 1} {𝓤 : Ura M} (𝓛 : Logic 𝓤) (memory : Memory → SProp 𝓤) (run : Routine → Fun 𝓤) where
   open 𝓛 use {H}
@@ -132,9 +132,9 @@ module _ {M : Type 1} {𝓤 : Ura M} (𝓛 : Logic 𝓤) (memory : Memory → SP
 
   -- The three functions meet their contracts.
   pub record Met (C : Calls 𝓤 H) : Type 1 where
-    pub blank-met : Triple 𝓤 (C #blank) Blank
-    pub plan-met : Triple 𝓤 (C #plan) Plan
-    pub whole-met : Triple 𝓤 (C #whole) Whole
+    pub blank_met : Triple 𝓤 (C #blank) Blank
+    pub plan_met : Triple 𝓤 (C #plan) Plan
+    pub whole_met : Triple 𝓤 (C #whole) Whole
 
 module _ {M : Type 1} {𝓤 : Ura M} (𝓛 : Logic 𝓤) (memory : Memory → SProp 𝓤) (run : Routine → Fun 𝓤)
     (κ : Lft) (q : Share) (c : Bor (List ℕ)) (asked : Method) (blank : Row) where
@@ -167,7 +167,7 @@ module _ {M : Type 1} {𝓤 : Ura M} (𝓛 : Logic 𝓤) (memory : Memory → SP
   abbrev Request : Fml
   Request = (ShrSlice (named 0) κ u8).own_val c (cv ∷ [])
 
-  exits : (r : WholePlan) (u : Val) → PlannedWhole (meant-method asked) c.now blank r
+  exits : (r : WholePlan) (u : Val) → PlannedWhole (meant_method asked) c.now blank r
       → ent 𝓤 (⋆ 𝓛 (‵ (flft κ q) ∷ ‵ ((whole-type.the_row).own_val r (u ∷ [])) ∷ [])) (Post u)
   exits r u planned =
       qed 𝓛 (‵ (flft κ q) ∷ ‵ ((whole-type.the_row).own_val r (u ∷ [])) ∷ []) ∵
@@ -177,11 +177,11 @@ module _ {M : Type 1} {𝓤 : Ura M} (𝓛 : Logic 𝓤) (memory : Memory → SP
 
   -- What each function is passed, and asks.
   module _ (is_b : Is row_type.the_row blank (bv ∷ [])) where
-    abbrev to-blank : (Blank 𝓛 memory run).Ghost
-    to-blank = ((tt, tt, tt, (blank, tt), (bv ∷ [], tt)), tt)
+    abbrev to_blank : (Blank 𝓛 memory run).Ghost
+    to_blank = ((tt, tt, tt, (blank, tt), (bv ∷ [], tt)), tt)
 
-    asks-blank : ent 𝓤 (emp 𝓤) ((Blank 𝓛 memory run).pre to-blank)
-    asks-blank =
+    asks_blank : ent 𝓤 (emp 𝓤) ((Blank 𝓛 memory run).pre to_blank)
+    asks_blank =
         qed 𝓛 [] ∵ nothing ! $ nothing ! $ nothing ! $
         owned ! row_type.the_row (Is row_type.the_row) (struct.makes row_type.the_type row_laws.the_plain 𝓛) blank _ is_b $
         fjoin ! $ move ! (1 ∷ 0 ∷ []) $ join ! $ join ! $ done !
@@ -190,9 +190,9 @@ module _ {M : Type 1} {𝓤 : Ura M} (𝓛 : Logic 𝓤) (memory : Memory → SP
     abbrev to_whole : (Whole 𝓛 memory run).Ghost
     to_whole = ((tt, tt, tt, (r, (zs, tt)), (u ∷ [], (w ∷ [], tt))), tt)
 
-    asks-whole : ent 𝓤 (emp 𝓤) ((Whole 𝓛 memory run).pre to_whole)
-    asks-whole =
-        qed 𝓛 [] ∵ nothing ! $ nothing ! $ nothing ! $ owned ! rows (Is rows) (rows-make 𝓛) zs _ is-zs $ fjoin ! $
+    asks_whole : ent 𝓤 (emp 𝓤) ((Whole 𝓛 memory run).pre to_whole)
+    asks_whole =
+        qed 𝓛 [] ∵ nothing ! $ nothing ! $ nothing ! $ owned ! rows (Is rows) (rows_make 𝓛) zs _ is-zs $ fjoin ! $
         owned ! answer.the_row (Is answer.the_row) (enum.makes answer.the_type answer-laws.the_plain 𝓛) r _ is-r $
         fjoin ! $ move ! (1 ∷ 0 ∷ []) $ join ! $ join ! $ done !
 
@@ -207,12 +207,12 @@ module _ {M : Type 1} {𝓤 : Ura M} (𝓛 : Logic 𝓤) (memory : Memory → SP
     abbrev Rows : Fml
     Rows = (MutSlice (named 1) (α ∷ []) row_type.the_row).own_val x (xv ∷ [])
 
-    abbrev to-plan : (Plan 𝓛 memory run).Ghost
-    to-plan = (((κ, (α ∷ [], tt)), (q, (full_share, tt)), tt, (c, (asked, (x, tt))), (cv ∷ [], (av ∷ [], (xv ∷ [], tt)))), tt)
+    abbrev to_plan : (Plan 𝓛 memory run).Ghost
+    to_plan = (((κ, (α ∷ [], tt)), (q, (full_share, tt)), tt, (c, (asked, (x, tt))), (cv ∷ [], (av ∷ [], (xv ∷ [], tt)))), tt)
 
-    asks-plan : Is method-type.the_row asked (av ∷ [])
-        → ent 𝓤 (⋆ 𝓛 ((‵ (flft κ q) ⊛ ‵ (flft (α ∷ []) full_share)) ∷ ‵ Request ∷ ‵ Rows ∷ [])) ((Plan 𝓛 memory run).pre to-plan)
-    asks-plan is-asked =
+    asks_plan : Is method-type.the_row asked (av ∷ [])
+        → ent 𝓤 (⋆ 𝓛 ((‵ (flft κ q) ⊛ ‵ (flft (α ∷ []) full_share)) ∷ ‵ Request ∷ ‵ Rows ∷ [])) ((Plan 𝓛 memory run).pre to_plan)
+    asks_plan is-asked =
         qed 𝓛 ((‵ (flft κ q) ⊛ ‵ (flft (α ∷ []) full_share)) ∷ ‵ Request ∷ ‵ Rows ∷ []) ∵
         nothing ! $ move ! (3 ∷ 0 ∷ []) $ fjoin ! $
         owned ! method-type.the_row (Is method-type.the_row) (enum.makes method-type.the_type method-laws.the_plain 𝓛) asked _ is-asked $
@@ -230,63 +230,63 @@ module _ {M : Type 1} {𝓤 : Ura M} (𝓛 : Logic 𝓤) (memory : Memory → SP
 
       body : Sq 𝓛 (held 𝓛 En (empty ∷ holds cv ∷ holds av ∷ holds bv ∷ []) (‵ (flft κ q) ∷ ‵ Request ∷ [])) (runs C Λ En text.t-1 (at_ret En Post))
       body =
-          use0 𝓛 (raw ((Blank 𝓛 memory run).pre (to-blank is_b))) (asks-blank is_b) $
-          calls-met ! blank-rows.ended (blank-rows.clauses 𝓛 memory run) fm met.blank-met (to-blank is_b) (λ zs ws. zs ≡ ys) (λ zs ws. refl)
-          (and_then ! (of-local ! 17 refl) (no_more !))
+          use0 𝓛 (raw ((Blank 𝓛 memory run).pre (to_blank is_b))) (asks_blank is_b) $
+          calls_met ! blank-rows.ended (blank-rows.clauses 𝓛 memory run) fm met.blank_met (to_blank is_b) (λ zs ws. zs ≡ ys) (λ zs ws. refl)
+          (and_then ! (of_local ! 17 refl) (no_more !))
           (λ v zs ws blanks is-zs. let is-ys : Is rows ys (v ∷ []) = subst (λ (zs : List Row). Is rows zs (v ∷ [])) blanks is-zs in
           drop ! $ drop ! $ drop ! $
-          sets-returned ! 16 refl (rows-typed 𝓛 ys v is-ys) $ sets ! 16 (of_opd ! (of-local ! 16 refl)) refl (rows-typed 𝓛 ys v is-ys) $
+          sets_returned ! 16 refl (rows_typed 𝓛 ys v is-ys) $ sets ! 16 (of_opd ! (of_local ! 16 refl)) refl (rows_typed 𝓛 ys v is-ys) $
           sets ! 16 (addr ! (from ! (stop !))) refl (tt, tt) $
-          sets ! 16 (agg ! (and_then ! (of-local ! 16 refl) (and_then ! (lit ! tt) (no_more !)))) refl (tt, (tt, (record { fits = lit< tt }, tt))) $
+          sets ! 16 (agg ! (and_then ! (of_local ! 16 refl) (and_then ! (lit ! tt) (no_more !)))) refl (tt, (tt, (record { fits = lit< tt }, tt))) $
           -- the array is lent
-          move ! (8 ∷ []) $ owned ! rows (Is rows) (rows-make 𝓛) ys _ is-ys $ move ! (1 ∷ 0 ∷ []) $
-          use2 𝓛 (‵ (cells (mem row_type.the_row) ys b 0)) (elements-of 𝓛 row_type.the_row tt 64 b ys v) $
+          move ! (8 ∷ []) $ owned ! rows (Is rows) (rows_make 𝓛) ys _ is-ys $ move ! (1 ∷ 0 ∷ []) $
+          use2 𝓛 (‵ (cells (mem row_type.the_row) ys b 0)) (elements_of 𝓛 row_type.the_row tt 64 b ys v) $
           lft_new ! tt (λ α. move ! (1 ∷ []) $
           use1 𝓛 (later (some (λ (γ : GName). ‵ (Rows b α γ) ⊛ ‵ (flent (α ∷ []) (Held row_type.the_row 64 b 0 γ)))))
           (lends_slice 𝓛 row_type.the_row (named 1) (α ∷ []) ys b 0 room) $ await ! tt $ pick ! (λ γ. split ! $
           -- the rows; what gives them back; their token; the locals, without the array; the request's token; the request
           move ! (20 ∷ 2 ∷ []) $ join ! $ move ! (0 ∷ 20 ∷ 1 ∷ []) $
-          use3 𝓛 (raw ((Plan 𝓛 memory run).pre (to-plan b α γ))) (asks-plan b α γ is-asked) $
-          calls-met ! plan.ended (plan.clauses 𝓛 memory run) fm met.plan-met (to-plan b α γ)
-          (λ r ws. PlannedRows (meant-method asked) c.now ys ws.1.1.0 r) (λ r ws. refl)
-          (and_then ! (of-local ! 17 refl) (and_then ! (of-local ! 17 refl) (and_then ! (of-local ! 18 refl) (no_more !))))
+          use3 𝓛 (raw ((Plan 𝓛 memory run).pre (to_plan b α γ))) (asks_plan b α γ is-asked) $
+          calls_met ! plan.ended (plan.clauses 𝓛 memory run) fm met.plan_met (to_plan b α γ)
+          (λ r ws. PlannedRows (meant_method asked) c.now ys ws.1.1.0 r) (λ r ws. refl)
+          (and_then ! (of_local ! 17 refl) (and_then ! (of_local ! 17 refl) (and_then ! (of_local ! 18 refl) (no_more !))))
           (λ u r ws planned is-r. let zs : List Row = ws.1.1.0 in
           drop ! $ fsplit ! $ drop ! $ fsplit ! $ drop ! $ fsplit ! $ fsplit ! $ move ! (1 ∷ 2 ∷ []) $ drop ! $ drop ! $ move ! (1 ∷ []) $
           use1 𝓛 (‵ (flft κ q) ⊛ (‵ (flft (α ∷ []) full_share) ⊛ ‵ ftrue)) (id⊢ 𝓤 _) $ split ! $ move ! (1 ∷ []) $ split ! $ move ! (1 ∷ []) $ drop ! $
           -- the rows' token; the request's token; what says the last rows; what gives them back; the locals, without the array
-          sets-returned ! 20 refl ((enum.lawful answer.the_type answer-laws.the_laws 𝓛 tt).typed r _ is-r).0 $
+          sets_returned ! 20 refl ((enum.lawful answer.the_type answer-laws.the_laws 𝓛 tt).typed r _ is-r).0 $
           -- the array comes back
           lft_end ! tt $ move ! (0 ∷ 3 ∷ 2 ∷ []) $
           use3 𝓛 (later (‵ ((Arr (mem row_type.the_row) 64).own_at zs b 0))) (slice_back 𝓛 row_type.the_row (α ∷ []) γ zs 64 b 0) $ await ! tt $
           use1 𝓛 (some (λ (w : Val). ‵ (fat full_share array b 0 w) ⊛ ‵ (rows.own_val zs (w ∷ [])))) (array_again 𝓛 row_type.the_row tt 64 b zs) $
           pick ! (λ w. split ! $ move ! (1 ∷ []) $ facts ! rows (Is rows) (shows 𝓛 rows) zs (w ∷ []) (λ is-zs.
           move ! (1 ∷ []) $ behind ! 1 $ move ! (1 ∷ 2 ∷ 3 ∷ 4 ∷ 5 ∷ 6 ∷ 7 ∷ 8 ∷ []) $
-          assigns ! (of_opd ! (of-local ! 16 refl)) (from ! (stop !)) (store ! 4 refl (rows-typed 𝓛 zs w is-zs)) $
-          use0 𝓛 (raw ((Whole 𝓛 memory run).pre (to_whole r u is-r zs w is-zs))) (asks-whole r u is-r zs w is-zs) $
-          calls-met ! whole_of.ended (whole_of.clauses 𝓛 memory run) fm met.whole-met (to_whole r u is-r zs w is-zs)
+          assigns ! (of_opd ! (of_local ! 16 refl)) (from ! (stop !)) (store ! 4 refl (rows_typed 𝓛 zs w is-zs)) $
+          use0 𝓛 (raw ((Whole 𝓛 memory run).pre (to_whole r u is-r zs w is-zs))) (asks_whole r u is-r zs w is-zs) $
+          calls_met ! whole_of.ended (whole_of.clauses 𝓛 memory run) fm met.whole_met (to_whole r u is-r zs w is-zs)
           (λ p ws. p ≡ record { answer = r; rows = zs }) (λ p ws. refl)
-          (and_then ! (of-local ! 17 refl) (and_then ! (of-local ! 17 refl) (no_more !)))
+          (and_then ! (of_local ! 17 refl) (and_then ! (of_local ! 17 refl) (no_more !)))
           (λ v p ws both is-p. move ! (1 ∷ 2 ∷ []) $ drop ! $ drop ! $
           -- what the plan owns; the locals; the request's token
-          sets-returned ! 17 refl ((struct.lawful whole-type.the_type whole-laws.the_laws 𝓛).typed p _ is-p).0 $
+          sets_returned ! 17 refl ((struct.lawful whole-type.the_type whole-laws.the_laws 𝓛).typed p _ is-p).0 $
           returns ! (look ! 17 refl) $ behind ! 1 $
           frees_all ! (holds _ ∷ holds _ ∷ holds _ ∷ holds _ ∷ holds _ ∷ holds _ ∷ holds _ ∷ holds _ ∷ holds _ ∷ []) $
-          by ! (exits p v (subst (PlannedWhole (meant-method asked) c.now blank) (sym both) planned)))))))))
+          by ! (exits p v (subst (PlannedWhole (meant_method asked) c.now blank) (sym both) planned)))))))))
 
     -- The parameters are passed, and the body runs.
-    walk-function : ent 𝓤 (on_entry 𝓛 this.signature (κ, tt) (q, tt) a vals) (WpFn 𝓤 H C Λ function (cv ∷ av ∷ bv ∷ []) Post)
-    walk-function =
+    walk_function : ent 𝓤 (on_entry 𝓛 this.signature (κ, tt) (q, tt) a vals) (WpFn 𝓤 H C Λ function (cv ∷ av ∷ bv ∷ []) Post)
+    walk_function =
         qed 𝓛 ((‵ (flft κ q) ⊛ ‵ ftrue) ∷ ‵ (owns (ShrSlice (named 0) κ u8 ∷ method-type.the_row ∷ row_type.the_row ∷ []) a vals) ∷ []) ∵
         split ! $ move ! (1 ∷ []) $ drop ! $ move ! (1 ∷ []) $ fsplit ! $ move ! (1 ∷ []) $ drop ! $ move ! (1 ∷ []) $
         enter ! C Λ function (cv ∷ av ∷ bv ∷ []) _ $
-        allocs-all ! locals (λ l. params1 ! $ pass1 ! (init ! 14 refl (tt, (tt, (record { fits = c-fits }, tt)))) $
+        allocs_all ! locals (λ l. params1 ! $ pass1 ! (init ! 14 refl (tt, (tt, (record { fits = c-fits }, tt)))) $
         pass1 ! (init ! 12 refl ((enum.lawful method-type.the_type method-laws.the_laws 𝓛 tt).typed asked _ is-asked).0) $
         pass1 ! (init ! 10 refl ((struct.lawful row_type.the_type row_laws.the_laws 𝓛).typed blank _ is_b).0) $ pass0 ! $ body l)
 
     walk : ent 𝓤 (on_entry 𝓛 this.signature (κ, tt) (q, tt) a vals) (WpFn 𝓤 H C Λ code.function (cv ∷ av ∷ bv ∷ []) Post)
     walk =
         subst (λ (f : Fn). ent 𝓤 (on_entry 𝓛 this.signature (κ, tt) (q, tt) a vals) (WpFn 𝓤 H C Λ f (cv ∷ av ∷ bv ∷ []) Post))
-        (sym function-is) walk-function
+        (sym function_is) walk_function
 
 module _ {M : Type 1} {𝓤 : Ura M} (𝓛 : Logic 𝓤) (memory : Memory → SProp 𝓤) (run : Routine → Fun 𝓤) (𝓣 : Tables 𝓤 𝓛.H)
     (met : Met 𝓛 memory run 𝓣.C) where
@@ -316,18 +316,18 @@ module _ {M : Type 1} {𝓤 : Ura M} (𝓛 : Logic 𝓤) (memory : Memory → SP
       )
       (this.clauses 𝓛 memory run) (WpFn 𝓤 H 𝓣.C 𝓣.Λ code.function) (WpFn-mono 𝓤 H 𝓛.laws 𝓣 code.function) walks
 
-pub plan-whole-spec : {M : Type 1} → stated.statement M
+pub plan_whole_spec : {M : Type 1} → stated.statement M
 unfolding code.routine tables_of
-plan-whole-spec 𝓤 𝓛 𝓜 𝓡 =
+plan_whole_spec 𝓤 𝓛 𝓜 𝓡 =
     entered 𝓤 𝓛.H (triple_of 𝓛 this.signature (this.spec 𝓛 𝓜.mem 𝓡.run))
     (tables 𝓤 𝓛.H 𝓜 𝓡 code.env).C (tables 𝓤 𝓛.H 𝓜 𝓡 code.env).Λ #plan-whole code.function (code.unfolded 𝓤 𝓛.H 𝓜 𝓡)
     (meets 𝓛 𝓜.mem 𝓡.run (tables_of 𝓤 𝓛.H 𝓜 (tables 𝓤 𝓛.H 𝓜 𝓡 code.env))
     (record {
-      blank-met =
+      blank_met =
           cited 𝓤 𝓛.H (Blank 𝓛 𝓜.mem 𝓡.run) 𝓜 𝓡 code.env #blank blank-rows-def.routine code.calls-rows::blank-rows
           (blank-rows-thm.met 𝓤 𝓛 𝓜 𝓡);
-      plan-met = cited 𝓤 𝓛.H (Plan 𝓛 𝓜.mem 𝓡.run) 𝓜 𝓡 code.env #plan plan-def.routine code.calls-rows::plan (plan-thm.met 𝓤 𝓛 𝓜 𝓡);
-      whole-met =
+      plan_met = cited 𝓤 𝓛.H (Plan 𝓛 𝓜.mem 𝓡.run) 𝓜 𝓡 code.env #plan plan-def.routine code.calls-rows::plan (plan-thm.met 𝓤 𝓛 𝓜 𝓡);
+      whole_met =
           cited 𝓤 𝓛.H (Whole 𝓛 𝓜.mem 𝓡.run) 𝓜 𝓡 code.env #whole whole-of-def.routine code.calls-rows::whole
           (whole-of-thm.met 𝓤 𝓛 𝓜 𝓡);
     }))

@@ -50,14 +50,14 @@ use denote.Triple.Table.{entered, cited}
 use denote.Triple.Walked.{says, needs, Stays, stay_slice, stay_none, walk_of, Goes-slice, Goes-none, Walks, ends_at, walked, walk_Meets}
 use denote.Exit.{yes}
 use Rattle.rules.specs.Folds.{listing}
-use Rattle.laws.specs.Overwritten.{overwritten, overwritten-next, length-overwritten}
+use Rattle.laws.specs.Overwritten.{overwritten, overwritten_next, length_overwritten}
 use Rattle.planner.specs.declared.Planning.{Planning}
 use Rattle.planner.specs.contracts.Planning as planning
 use Rattle.planner.proofs.Planning.TheLaws as planning-laws
 use Rattle.rows.specs.declared.Row.{Row}
 use Rattle.rows.specs.Planned.{row_at}
-use Rattle.rows.proofs.Locals.{empty, holds, env, held, allocs-all, forgets, behind, frees_all, of-local, of_field, sets, sets-returned, whiles}
-use Rattle.rows.proofs.Calls.{contractOf, calls-met}
+use Rattle.rows.proofs.Locals.{empty, holds, env, held, allocs_all, forgets, behind, frees_all, of_local, of_field, sets, sets_returned, whiles}
+use Rattle.rows.proofs.Calls.{contractOf, calls_met}
 use Rattle.rows.specs.contracts.Row as row_type
 use Rattle.rows.proofs.Row.TheLaws as row_laws
 use Rattle.rows.specs.contracts.row_of as row_of
@@ -88,8 +88,8 @@ locals =
 abbrev function : Fn
 function = record { lifetimes = 1; outlives = []; params = 3; locals = locals; body = text.t-1 }
 
-function-is : code.function ≡ function
-function-is = refl
+function_is : code.function ≡ function
+function_is = refl
 
 abbrev RowOf : {M : Type 1} {𝓤 : Ura M} (𝓛 : Logic 𝓤) → (Memory → SProp 𝓤) → (Routine → Fun 𝓤) → Contract 𝓤
 RowOf 𝓛 mem run = contractOf 𝓛 row_of.ended (row_of.clauses 𝓛 mem run)
@@ -127,7 +127,7 @@ module _ {M : Type 1} {𝓤 : Ura M} (𝓛 : Logic 𝓤) (mem : Memory → SProp
   module _ (room : Room row_type.the_row (length ys)) (n-fits : n < 2 ^ 64) (is-p : Is planning.the_row p (pv ∷ [])) (in_rows : n ≤ length ys)
       (in-columns : n ≤ 64) where
     same_length : (i : ℕ) → i ≤ n → length (after i) ≡ length ys
-    same_length i l = length-overwritten i (row_at p) ys (omega (arith, l, in_rows))
+    same_length i l = length_overwritten i (row_at p) ys (omega (arith, l, in_rows))
 
     -- What is had at exit: the borrow at the last rows, and the token.
     abbrev Exit : List (Item 𝓤)
@@ -160,18 +160,18 @@ module _ {M : Type 1} {𝓤 : Ura M} (𝓛 : Logic 𝓤) (mem : Memory → SProp
     abbrev Nearer : Upto → Upto → Type 0
     Nearer j i = n - j.0 < n - i.0
 
-    nearer-ends : WellFounded Nearer
-    nearer-ends = InvImage.wf (λ (i : Upto). n - i.0) lt-wf_rel.wf
+    nearer_ends : WellFounded Nearer
+    nearer_ends = InvImage.wf (λ (i : Upto). n - i.0) lt-wf_rel.wf
 
-    typed-p : T (has_ty planning-laws.mir pv) × WT pv
-    typed-p = ((struct.lawful planning.the_type planning-laws.the_laws 𝓛).typed p _ is-p).0
+    typed_p : T (has_ty planning-laws.mir pv) × WT pv
+    typed_p = ((struct.lawful planning.the_type planning-laws.the_laws 𝓛).typed p _ is-p).0
 
     -- What `row_of` is passed, and asks.
     abbrev to_row : ℕ → (RowOf 𝓛 mem run).Ghost
     to_row i = ((tt, tt, tt, (p, (i, tt)), (pv ∷ [], (vint w64 i ∷ [], tt))), tt)
 
-    asks-row : (i : ℕ) → i < 64 → ent 𝓤 (emp 𝓤) ((RowOf 𝓛 mem run).pre (to_row i))
-    asks-row i l =
+    asks_row : (i : ℕ) → i < 64 → ent 𝓤 (emp 𝓤) ((RowOf 𝓛 mem run).pre (to_row i))
+    asks_row i l =
         qed 𝓛 [] ∵ says ! l $ nothing ! $ nothing ! $ owned ! usize (Is usize) (uint_Makes 𝓛 w64) i _ (refl, omega (arith, l)) $ fjoin ! $
         owned ! planning.the_row (Is planning.the_row) (struct.makes planning.the_type planning-laws.the_plain 𝓛) p _ is-p $
         fjoin ! $ move ! (1 ∷ 0 ∷ []) $ join ! $ done !
@@ -200,17 +200,17 @@ module _ {M : Type 1} {𝓤 : Ura M} (𝓛 : Logic 𝓤) (mem : Memory → SProp
         turns : (i : Upto) → Sq 𝓛 (At i) (runs C Λ En text.turn-1 (any_q (Turned i)))
         unfolding after_turn
         turns i =
-            sets ! 16 (bin ! (of-local ! 16 refl) (of-local ! 16 refl) tt) refl (tt, tt) $
-            whiles ! (of-local ! 16 refl)
+            sets ! 16 (bin ! (of_local ! 16 refl) (of_local ! 16 refl) tt) refl (tt, tt) $
+            whiles ! (of_local ! 16 refl)
             (λ less. let k : i.0 < n = ltb→lt i.0 n less in
-            use0 𝓛 (raw ((RowOf 𝓛 mem run).pre (to_row i.0))) (asks-row i.0 (omega (arith, k, in-columns))) $
-            calls-met ! row_of.ended (row_of.clauses 𝓛 mem run) (fm_of 𝓤 H 𝓛.laws 𝓣) met (to_row i.0) (λ r ws. r ≡ row_at p i.0) (λ r ws. refl)
-            (and_then ! (of-local ! 17 refl) (and_then ! (of-local ! 17 refl) (no_more !)))
+            use0 𝓛 (raw ((RowOf 𝓛 mem run).pre (to_row i.0))) (asks_row i.0 (omega (arith, k, in-columns))) $
+            calls_met ! row_of.ended (row_of.clauses 𝓛 mem run) (fm_of 𝓤 H 𝓛.laws 𝓣) met (to_row i.0) (λ r ws. r ≡ row_at p i.0) (λ r ws. refl)
+            (and_then ! (of_local ! 17 refl) (and_then ! (of_local ! 17 refl) (no_more !)))
             (λ v r ws is_row is-r. drop ! $ drop ! $ drop ! $
-            sets-returned ! 16 refl (typed r v is-r) $
-            sets ! 16 (bin ! (of-local ! 16 refl) (lit ! tt) (record { fits = omega (arith, k, in-columns) })) refl
+            sets_returned ! 16 refl (typed r v is-r) $
+            sets ! 16 (bin ! (of_local ! 16 refl) (lit ! tt) (record { fits = omega (arith, k, in-columns) })) refl
             (tt, record { fits = omega (arith, k, in-columns) }) $
-            sets ! 16 (bin ! (of_field ! 16 refl (sub ! 0 refl (whole !))) (of-local ! 16 refl) tt) refl (tt, tt) $
+            sets ! 16 (bin ! (of_field ! 16 refl (sub ! 0 refl (whole !))) (of_local ! 16 refl) tt) refl (tt, tt) $
             -- the pointer is to row i
             rewrite ! 0 (λ (m : ℕ). ‵ (fat full_share ty_ptr (l 8) 0 (vptr b m))) (sym (place_is 32 o i.0)) refl $
             move ! (21 ∷ []) $
@@ -218,13 +218,13 @@ module _ {M : Type 1} {𝓤 : Ura M} (𝓛 : Logic 𝓤) (mem : Memory → SProp
             (struct.tells row_type.the_type row_laws.the_laws) full_share (after i.0) i.0 r b o (within k)
             (λ _.
             -- row i; what it owns; the other rows; the locals; the open borrow
-            assigns ! (of_opd ! (of-local ! 19 refl)) (from ! (hop ! (look ! 3 refl) (stop !))) (store_raw ! 0 refl (typed r v is-r)) $
+            assigns ! (of_opd ! (of_local ! 19 refl)) (from ! (hop ! (look ! 3 refl) (stop !))) (store_raw ! 0 refl (typed r v is-r)) $
             move ! (1 ∷ []) $ drop ! $
             owned ! row_type.the_row (Is row_type.the_row) (struct.makes row_type.the_type row_laws.the_plain 𝓛) r _ is-r $
             move ! (1 ∷ 0 ∷ 2 ∷ []) $ elem_put ! row_type.the_row full_share (after i.0) i.0 r (v ∷ []) b o (within k) $
             -- one row more is stored
             rewrite ! 0 (λ (zs : List Row). ‵ (row row_type.the_row full_share zs b o)) (one_more k r is_row) refl $ behind ! 1 $
-            assigns_last ! (bin ! (of-local ! 16 refl) (lit ! tt) (record { fits = omega (arith, k, in-columns) })) (from ! (stop !))
+            assigns_last ! (bin ! (of_local ! 16 refl) (lit ! tt) (record { fits = omega (arith, k, in-columns) })) (from ! (stop !))
             (store ! 8 refl (tt, record { fits = omega (arith, k, in-columns) })) $
             forgets ! En 5 (empty ∷ holds _ ∷ holds _ ∷ holds _ ∷ holds _ ∷ holds _ ∷ holds _ ∷ holds _ ∷ holds _ ∷ [])
             (Open (after (i.0 + 1))) $
@@ -244,7 +244,7 @@ module _ {M : Type 1} {𝓤 : Ura M} (𝓛 : Logic 𝓤) (mem : Memory → SProp
             within k = omega (arith, k, in_rows, same_length i.0 i.1)
 
             one_more : i.0 < n → (r : Row) → r ≡ row_at p i.0 → set (after i.0) i.0 r ≡ after (i.0 + 1)
-            one_more k r is = ap (set (after i.0) i.0) is ∙ overwritten-next i.0 (row_at p) ys (omega (arith, k, in_rows))
+            one_more k r is = ap (set (after i.0) i.0) is ∙ overwritten_next i.0 (row_at p) ys (omega (arith, k, in_rows))
 
             all : T (not (ltb i.0 n)) → i.0 ≡ n
             all over = omega (arith, i.1, nltb→le i.0 n over)
@@ -254,15 +254,15 @@ module _ {M : Type 1} {𝓤 : Ura M} (𝓛 : Logic 𝓤) (mem : Memory → SProp
         unfolding listing
         body =
             sets ! 16 (of_opd ! (lit ! tt)) refl (tt, record { fits = lit< tt }) $
-            first ! $ blocks ! $ loops ! 𝓣 Nearer nearer-ends At turns (0, zero-le)
+            first ! $ blocks ! $ loops ! 𝓣 Nearer nearer_ends At turns (0, zero-le)
 
       -- The parameters are passed, and the borrow is opened.
-      walk-function : ent 𝓤 (on_entry 𝓛 this.signature (κ, tt) (q, tt) a vals) (WpFn 𝓤 H C Λ function (s ∷ vint w64 n ∷ pv ∷ []) Post)
-      walk-function =
+      walk_function : ent 𝓤 (on_entry 𝓛 this.signature (κ, tt) (q, tt) a vals) (WpFn 𝓤 H C Λ function (s ∷ vint w64 n ∷ pv ∷ []) Post)
+      walk_function =
           qed 𝓛 ((‵ (flft κ q) ⊛ ‵ ftrue) ∷ ‵ (owns (MutSlice (named 0) κ row_type.the_row ∷ usize ∷ planning.the_row ∷ []) a vals) ∷ []) ∵
           enter ! C Λ function (s ∷ vint w64 n ∷ pv ∷ []) _ $
-          allocs-all ! locals (λ l. params1 ! $ pass1 ! (init ! 14 refl (tt, (tt, (record { fits = room.0 }, tt)))) $
-          pass1 ! (init ! 12 refl (tt, record { fits = n-fits })) $ pass1 ! (init ! 10 refl typed-p) $ pass0 ! $
+          allocs_all ! locals (λ l. params1 ! $ pass1 ! (init ! 14 refl (tt, (tt, (record { fits = room.0 }, tt)))) $
+          pass1 ! (init ! 12 refl (tt, record { fits = n-fits })) $ pass1 ! (init ! 10 refl typed_p) $ pass0 ! $
           move ! (18 ∷ 19 ∷ []) $ split ! $ move ! (2 ∷ []) $ fsplit ! $ fsplit ! $ move ! (1 ∷ []) $ fsplit ! $ move ! (0 ∷ 1 ∷ 4 ∷ []) $
           opens_slice ! tt row_type.the_row ys b o $
           -- the rows; the open borrow; what the parameters own; the locals
@@ -271,7 +271,7 @@ module _ {M : Type 1} {𝓤 : Ura M} (𝓛 : Logic 𝓤) (mem : Memory → SProp
       walk : ent 𝓤 (on_entry 𝓛 this.signature (κ, tt) (q, tt) a vals) (WpFn 𝓤 H C Λ code.function (s ∷ vint w64 n ∷ pv ∷ []) Post)
       walk =
           subst (λ (f : Fn). ent 𝓤 (on_entry 𝓛 this.signature (κ, tt) (q, tt) a vals) (WpFn 𝓤 H C Λ f (s ∷ vint w64 n ∷ pv ∷ []) Post))
-          (sym function-is) walk-function
+          (sym function_is) walk_function
 
 module _ {M : Type 1} {𝓤 : Ura M} (𝓛 : Logic 𝓤) (mem : Memory → SProp 𝓤) (run : Routine → Fun 𝓤) (𝓣 : Tables 𝓤 𝓛.H)
     (met : Triple 𝓤 (𝓣.C #row-of) (RowOf 𝓛 mem run)) where

@@ -2,32 +2,32 @@
 use mathlib.Core.List.{◌++◌}
 use Rattle.rules.specs.Text.{bytes}
 use Rattle.rules.specs.Why.{told}
-use Rattle.decimals.specs.Wrote.{Room, wrote_then, room-first, room_next}
-use Rattle.sentences.specs.Sentences.{two-end}
+use Rattle.decimals.specs.Wrote.{Room, wrote_then, room_first, room_next}
+use Rattle.sentences.specs.Sentences.{two_end}
 use borrow.Author.Rules.{rules}
 use Rattle.sentences.proofs.put_two.Statement.{statement}
 use Rattle.sentences.proofs.put_two.Tie as tie
 
-for-second : (c : tie.After-put-told) →
+for_second : (c : tie.After-put-told) →
     let a = c.before.before.before.before.before.before.args in
-    Room c.put-told.new.0 c.put-told.result (told (bytes " ") a.b ++ two-end a.first.now a.second.now a.a a.b)
-for-second c = room_next c.before.before.before.before.before.before.requires c.put-told.ensures
+    Room c.put-told.new.0 c.put-told.result (told (bytes " ") a.b ++ two_end a.first.now a.second.now a.a a.b)
+for_second c = room_next c.before.before.before.before.before.before.requires c.put-told.ensures
 
 put-told-requires : tie.Need-put-told-requires
-put-told-requires c κs = room-first _ c.before.before.before.before.before.requires
+put-told-requires c κs = room_first _ c.before.before.before.before.before.requires
 
 slice-aggregate-put-told : tie.Need-slice-aggregate-put-told
 slice-aggregate-put-told c = search rules
 
 put-told-requires-2 : tie.Need-put-told-requires-2
 unfolding bytes
-put-told-requires-2 c κs = room-first _ (for-second c.before.before.before.before)
+put-told-requires-2 c κs = room_first _ (for_second c.before.before.before.before)
 
 put-end-requires : tie.Need-put-end-requires
 unfolding bytes
 put-end-requires c κs =
     let lined = c.before.before.before in
-    room_next (for-second lined.before.before.before.before.before) lined.put-told2.ensures
+    room_next (for_second lined.before.before.before.before.before) lined.put-told2.ensures
 
 same_length : tie.Need-same-length
 same_length c = search rules
@@ -39,8 +39,8 @@ returns c =
     wrote_then lined.before.before.before.before.before.put-told.ensures
     (wrote_then lined.put-told2.ensures c.before.before.put-end.ensures)
 
-pub put-two-spec : {M : Type 1} → statement M
-put-two-spec =
+pub put_two_spec : {M : Type 1} → statement M
+put_two_spec =
     tie.close
     (tie.spec
     put-told-requires

@@ -2,20 +2,20 @@
 use mathlib.Core.Path.{sym}
 use Prim.Native.Nat.{◌≤◌}
 use Rattle.rules.specs.Workflow.{workflow}
-use Rattle.rules.specs.Method.{by-HBCS}
-use Rattle.rules.specs.Answer.{outcome-by}
-use Rattle.choosing.specs.Named.{meant-method}
-use Rattle.reader.specs.Meaning.{meant-share}
-use Rattle.lookup.specs.Lookup.{workflow-of}
-use Rattle.demands.specs.Ground.GoodRequest.{outcome-of-good}
-use Rattle.demands.specs.Demand2.WhatIsDue.{requests-get-their-due}
-use Rattle.placing.specs.Arrays.{columns-first}
+use Rattle.rules.specs.Method.{by_HBCS}
+use Rattle.rules.specs.Answer.{outcome_by}
+use Rattle.choosing.specs.Named.{meant_method}
+use Rattle.reader.specs.Meaning.{meant_share}
+use Rattle.lookup.specs.Lookup.{workflow_of}
+use Rattle.demands.specs.Ground.GoodRequest.{outcome_of_good}
+use Rattle.demands.specs.Demand2.WhatIsDue.{requests_get_their_due}
+use Rattle.placing.specs.Arrays.{columns_first}
 use Rattle.planner.specs.declared.Planning.{Planning}
-use Rattle.planner.specs.Planned.{meant-answer, planned-in, workflow-by}
-use Rattle.bounds.specs.AnswerBounds.{in-force-is-in-range}
-use Rattle.reasons.specs.Meant.{meant-why}
+use Rattle.planner.specs.Planned.{meant_answer, planned_in, workflow_by}
+use Rattle.bounds.specs.AnswerBounds.{in_force_is_in_range}
+use Rattle.reasons.specs.Meant.{meant_why}
 use Rattle.demands.specs.Demand2.WhyNot.{why-of-refused}
-use Rattle.sooner.specs.WhyOf.{RowsOf, plan-told}
+use Rattle.sooner.specs.WhyOf.{RowsOf, plan_told}
 use borrow.Author.Rules.{rules}
 use native.Mathlib.Omega.{arith}
 use Rattle.sooner.proofs.why_good.Statement.{statement}
@@ -26,39 +26,39 @@ abbrev plan-of : tie.After-plan-good → Planning
 plan-of c =
     let planned = c.plan-good in
     let columns = planned.new.1.1.1.1 in
-    planned-in columns.0 columns.1.0 columns.1.1.0 columns.1.1.1.0 planned.result
+    planned_in columns.0 columns.1.0 columns.1.1.0 columns.1.1.1.0 planned.result
 
 told : (c : tie.After-enum-told) →
     let planned = c.before.before in
     let a = planned.before.before.before.before.before.before.args in
-    RowsOf (workflow-of a.s.now a.v) (outcome-by by-HBCS (workflow-by by-HBCS a.s.now a.v) 64) (plan-of planned)
-unfolding meant-method
+    RowsOf (workflow_of a.s.now a.v) (outcome_by by_HBCS (workflow_by by_HBCS a.s.now a.v) 64) (plan-of planned)
+unfolding meant_method
 told c =
     let planned = c.before.before in
     let start = planned.before.before.before.before.before.before in
     let s = start.args.s.now in
     let v = start.args.v in
-    let due = rw (outcome-of-good by-HBCS s start.requires 64) at (requests-get-their-due by-HBCS s start.requires 64) in
-    plan-told (meant-share v.share) (workflow-of s v) (plan-of planned) (in-force-is-in-range by-HBCS s start.requires) due
+    let due = rw (outcome_of_good by_HBCS s start.requires 64) at (requests_get_their_due by_HBCS s start.requires 64) in
+    plan_told (meant_share v.share) (workflow_of s v) (plan-of planned) (in_force_is_in_range by_HBCS s start.requires) due
     planned.plan-good.ensures c.enum_told.given.1
 
 plan-good-requires : tie.Need-plan-good-requires
-plan-good-requires c κs = (c.before.before.before.before.before.requires, columns-first)
+plan-good-requires c κs = (c.before.before.before.before.before.requires, columns_first)
 
 enum-known-answer : tie.Need-enum-known-answer
 enum-known-answer c = search rules
 
 returns : tie.Need-returns
-unfolding meant-why meant-answer meant-method
+unfolding meant_why meant_answer meant_method
 returns c =
     let planned = c.before.before.before in
-    sym (why-of-refused _ (sym (rw c.before.answer.given.1 at planned.plan-good.ensures.answer-is)) _ _)
+    sym (why-of-refused _ (sym (rw c.before.answer.given.1 at planned.plan-good.ensures.answer_is)) _ _)
 
 enum_told : tie.Need-enum-told
 enum_told c = search rules
 
 returns-2 : tie.Need-returns-2
-unfolding meant-why workflow
+unfolding meant_why workflow
 returns-2 c =
     let a = c.before.before.before.before.before.before.before.before.before.before.args in
     let past : a.v.tasks ≤ a.task = omega (arith, c.if1.true) in
@@ -71,17 +71,17 @@ why-placed-requires c κs =
     let rows = told asked.before.before in
     let below = asked.if1.false in
     let start = asked.before.before.before.before.before.before.before.before.before.before in
-    (start.requires, ((below, rows.processor-in _ below), (rows.start-in _ below, rows.finishes-in)))
+    (start.requires, ((below, rows.processor_in _ below), (rows.start_in _ below, rows.finishes_in)))
 
 returns-3 : tie.Need-returns-3
 unfolding workflow
 returns-3 c =
     let asked = c.before.before.before.before in
     let start = asked.before.before.before.before.before.before.before.before.before.before in
-    rw ((told asked.before.before).reason start.args.task start.args.start asked.if1.false) at c.why-placed.ensures
+    rw ((told asked.before.before).reason start.args.task start.args.start asked.if1.false) at c.why_placed.ensures
 
-pub why-good-spec : {M : Type 1} → statement M
-why-good-spec =
+pub why_good_spec : {M : Type 1} → statement M
+why_good_spec =
     tie.close
     (tie.spec
     plan-good-requires

@@ -1,7 +1,7 @@
 -- The text is copied where there is room for it.
 use mathlib.Core.Path.{refl}
 use native.Mathlib.Omega.{arith}
-use Rattle.text.specs.Printing.{printed-nothing, printed-whole}
+use Rattle.text.specs.Printing.{printed_nothing, printed_whole}
 use borrow.Author.Rules.{rules}
 use Rattle.text.proofs.print_text.Statement.{statement}
 use Rattle.text.proofs.print_text.Tie as tie
@@ -9,7 +9,7 @@ use Rattle.text.proofs.print_text.Tie as tie
 returns : tie.Need-returns
 returns c =
     let start = c.before.before.before in
-    printed-nothing start.args.text.now start.args.out.now refl c.if1.true
+    printed_nothing start.args.text.now start.args.out.now refl c.if1.true
 
 put-bytes-requires : tie.Need-put-bytes-requires
 put-bytes-requires c κs = record { fits = omega (arith, c.before.if1.false) }
@@ -22,7 +22,7 @@ returns-2 c =
     let written = c.before.before in
     let fits = written.before.before in
     let start = fits.before.before.before in
-    printed-whole start.args.text.now start.args.out.now (record { fits = omega (arith, fits.if1.false) }) written.put-bytes.ensures
+    printed_whole start.args.text.now start.args.out.now (record { fits = omega (arith, fits.if1.false) }) written.put-bytes.ensures
 
-pub print-text-spec : {M : Type 1} → statement M
-print-text-spec = tie.close (tie.spec returns put-bytes-requires same_length returns-2)
+pub print_text_spec : {M : Type 1} → statement M
+print_text_spec = tie.close (tie.spec returns put-bytes-requires same_length returns-2)

@@ -1,7 +1,7 @@
 -- The text of the reason stands in the front of the local buffer, and is printed from there.
 use native.Mathlib.Omega.{arith}
 use lib.ListN.{length-take}
-use Rattle.text.specs.Printing.{front_length, front-printed}
+use Rattle.text.specs.Printing.{front_length, front_printed}
 use borrow.Author.Rules.{rules}
 use Rattle.text.proofs.print_why.Statement.{statement}
 use Rattle.text.proofs.print_why.Tie as tie
@@ -33,10 +33,10 @@ returns : tie.Need-returns
 returns c =
     let printed = c.before.before in
     let written = printed.before.before.before.before in
-    rw (← written.before.before.why-not.ensures) (front-printed written.put-why.ensures printed.print-text.ensures)
+    rw (← written.before.before.why_not.ensures) (front_printed written.put-why.ensures printed.print-text.ensures)
 
-pub print-why-spec : {M : Type 1} → statement M
-print-why-spec =
+pub print_why_spec : {M : Type 1} → statement M
+print_why_spec =
     tie.close
     (tie.spec
     why-not-requires

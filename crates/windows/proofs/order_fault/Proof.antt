@@ -5,14 +5,14 @@ use mathlib.Core.Bool.{not, ◌||◌}
 use mathlib.Core.List.{[], ◌∷◌}
 use lib.Dec.{leb, eqb}
 use borrow.Author.Tests.{not-true, not-false, eq-eqb, ne_eqb, le-leb, lt-leb}
-use Rattle.rules.specs.Fields.{M, body, size, M-processor, M-begin, M-end}
-use Rattle.rules.specs.Records.{unless, first-fault, follows, above, apart}
+use Rattle.rules.specs.Fields.{M, body, size, M_processor, M_begin, M_end}
+use Rattle.rules.specs.Records.{unless, first_fault, follows, above, apart}
 use borrow.Author.Rules.{rules}
 use Rattle.windows.proofs.order_fault.Statement.{statement}
 use Rattle.windows.proofs.order_fault.Tie as tie
 
 returns : tie.Need-returns
-unfolding follows first-fault unless
+unfolding follows first_fault unless
 returns c = simp (eq-eqb _ _ c.if1.true)
 
 sub-before : tie.Need-overflow-sub-before
@@ -44,7 +44,7 @@ by_tests : (c : tie.After-above) {fault : ℕ} →
     let before-processor = before-end.before.before in
     let a = before-processor.before.before.before.args in
     fault
-    ≡ first-fault
+    ≡ first_fault
     (unless c.above.result 3
     ∷ unless
     (not (eqb before-processor.field.result processor.field2.result)
@@ -52,11 +52,11 @@ by_tests : (c : tie.After-above) {fault : ℕ} →
     3
     ∷ []) →
     fault
-    ≡ first-fault
-    (unless (follows M (above (M-processor a.s.now) (M-begin a.s.now)) a.at a.k) 3
+    ≡ first_fault
+    (unless (follows M (above (M_processor a.s.now) (M_begin a.s.now)) a.at a.k) 3
     ∷ unless (follows M (apart a.s.now) a.at a.k) 3
     ∷ [])
-unfolding follows above apart M-processor M-begin M-end size body
+unfolding follows above apart M_processor M_begin M_end size body
 by_tests c e =
     let begin = c.before in
     let processor = begin.before in
@@ -75,29 +75,29 @@ by_tests c e =
     e
 
 returns-2 : tie.Need-returns-2
-unfolding first-fault unless
+unfolding first_fault unless
 returns-2 c = by_tests c.before (simp (not-true c.before.above.result c.if2.true))
 
 returns-3 : tie.Need-returns-3
-unfolding first-fault unless
+unfolding first_fault unless
 returns-3 c = by_tests c.before.before (simp (not-false c.before.before.above.result c.before.if2.false, ne_eqb _ _ c.if3.true))
 
 returns-4 : tie.Need-returns-4
-unfolding first-fault unless
+unfolding first_fault unless
 returns-4 c =
     let higher = c.before.before in
     by_tests higher.before
     (simp (not-false higher.before.above.result higher.if2.false, eq-eqb _ _ c.before.if3.false, lt-leb _ _ c.if4.true))
 
 returns-5 : tie.Need-returns-5
-unfolding first-fault unless
+unfolding first_fault unless
 returns-5 c =
     let higher = c.before.before in
     by_tests higher.before
     (simp (not-false higher.before.above.result higher.if2.false, eq-eqb _ _ c.before.if3.false, le-leb _ _ c.if4.false))
 
-pub order-fault-spec : {M : Type 1} → statement M
-order-fault-spec =
+pub order_fault_spec : {M : Type 1} → statement M
+order_fault_spec =
     tie.close
     (tie.spec
     returns
