@@ -1,4 +1,6 @@
 // The plan of a request by the method that is asked for, and the range that a budget is set in: of every byte string.
+#![tactic(auto)]
+
 ghost use Rattle.std.specs.Prelude.{◌≡◌, []};
 ghost use Rattle.rules.specs.Answer.{outcome_asked, answer_asked};
 ghost use Rattle.rules.specs.Range as rules;

@@ -1,4 +1,6 @@
 // What every plan is made of, whatever its answer: the budget that is in force, and all tasks placed, once what this takes is computed.
+#![tactic(auto)]
+
 ghost use Rattle.std.specs.Prelude.{◌≤◌, ◌≡◌, []};
 ghost use Rattle.rules.specs.Reading.{no_deadline};
 ghost use Rattle.rules.specs.Budget.{in_force, budget_between, budget_of};

@@ -1,4 +1,6 @@
 // The plan of a request by the method that is asked for, its rows in four lent buffers of numbers.
+#![tactic(auto)]
+
 ghost use Rattle.std.specs.Prelude.{◌≡◌, ◌++◌, ◌≤◌, min, length, drop};
 ghost use Rattle.rules.specs.Folds.{listing};
 ghost use Rattle.laws.specs.Stores.{at};

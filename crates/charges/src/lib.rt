@@ -1,4 +1,6 @@
 // What the processors of a good request charge, read once for a plan: one walks over their records, each as long as its kind.
+#![tactic(auto)]
+
 ghost use Rattle.std.specs.Prelude.{◌+◌, ◌≤◌, length};
 ghost use Rattle.rules.specs.Fields.{size};
 ghost use Rattle.rules.specs.Workflow.{processor_kind};

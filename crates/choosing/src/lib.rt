@@ -1,4 +1,6 @@
 // Choosing a processor for the task in hand, from the costs and the finishes on each. Knows no request.
+#![tactic(auto)]
+
 ghost use Rattle.std.specs.Prelude.{◌≡◌, ◌≤◌, ◌<◌};
 ghost use Rattle.rules.specs.Orders.{lower, tie, first};
 ghost use Rattle.rules.specs.Method as rules;

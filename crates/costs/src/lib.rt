@@ -1,4 +1,6 @@
 // What a task costs on each processor, the lowest of its costs, and the cheapest total, by what the processors charge.
+#![tactic(auto)]
+
 ghost use Rattle.std.specs.Prelude.{◌≡◌, ◌≤◌, ◌<◌};
 ghost use Rattle.rules.specs.Folds.{lowest};
 ghost use Rattle.rules.specs.Ranks.{cost, cheapest_total};

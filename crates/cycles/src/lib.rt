@@ -1,4 +1,6 @@
 // The lowest task with a path back to itself, where a request's edges have a cycle.
+#![tactic(auto)]
+
 ghost use Rattle.std.specs.Prelude.{◌≡◌, true, false, ◌||◌, ◌<◌, eqb, get_or};
 ghost use Rattle.rules.specs.Cycle.{back_to_itself, cyclic, lowest_in_cycle};
 ghost use Rattle.reader.specs.Meaning.{ViewOf};

@@ -1,4 +1,6 @@
 // Bytes and numbers in decimal, written over a lent buffer from a place on.
+#![tactic(auto)]
+
 ghost use Rattle.std.specs.Prelude.{◌≡◌, [], ◌∷◌, length};
 ghost use Rattle.rules.specs.Text.{decimal};
 ghost use Rattle.decimals.specs.Wrote.{Room, Wrote};

@@ -1,4 +1,6 @@
 // What the processors of a good request are busy with at first: its windows.
+#![tactic(auto)]
+
 ghost use Rattle.std.specs.Prelude.{◌≡◌};
 ghost use Rattle.reader.specs.Meaning.{ViewOf, meant_view};
 ghost use Rattle.lookup.specs.Lookup.{workflow_of};

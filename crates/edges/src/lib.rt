@@ -1,4 +1,6 @@
 // Reads one edge of a request.
+#![tactic(auto)]
+
 ghost use Rattle.std.specs.Prelude.{◌≡◌, ◌+◌, ◌*◌, ◌≤◌, length, [], ◌∷◌};
 ghost use Rattle.rules.specs.Fields.{E, E_from, E_to};
 ghost use Rattle.rules.specs.Records.{unless, first_fault, follows, above, edge_ranges, edge_at};

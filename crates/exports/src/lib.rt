@@ -1,4 +1,6 @@
 // What a program in C or Rust links: numbers, structs of numbers and slices. A slice is passed as its pointer and its length.
+#![tactic(auto)]
+
 ghost use Rattle.std.specs.Prelude.{◌≡◌};
 ghost use Rattle.label.specs.Label.{ListedTold, LabelLength};
 ghost use Rattle.rules.specs.Reading.{read_request};

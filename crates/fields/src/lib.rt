@@ -1,4 +1,6 @@
 // What a record is read by: its opening, the numbers in its bytes, and whether they are in range.
+#![tactic(auto)]
+
 ghost use Rattle.std.specs.Prelude.{◌≡◌, not, ◌&&◌, ◌||◌, ◌+◌, ◌≤◌, ◌<◌, length, ltb, eqb};
 ghost use Rattle.rules.specs.Fields.{byte, two_bytes, four_bytes};
 ghost use Rattle.rules.specs.Records.{first_fault, opening_by, within};

@@ -1,4 +1,6 @@
 // The task in hand: its start and finish on each processor, and the row that it gets.
+#![tactic(auto)]
+
 ghost use Rattle.std.specs.Prelude.{◌≡◌, ◌≤◌, ◌<◌};
 ghost use Rattle.rules.specs.Ranks.{cost};
 ghost use Rattle.rules.specs.Method as rules;

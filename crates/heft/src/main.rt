@@ -1,4 +1,6 @@
 // The program: reads a request, prints its HEFT plan, and writes that in one piece. "reads at most 16,384 bytes from standard input".
+#![tactic(auto)]
+
 use choosing::Method;
 use libc::{STDIN_FILENO, STDOUT_FILENO};
 

@@ -32,6 +32,7 @@ member_of_stands_in (x ∷ xs) b e = go (eqb x b) refl (member_of_stands_in xs b
 
 stands_in_of_member : (xs : List ℕ) (b : ℕ) → Memᴰ b xs → stands_in xs b ≡ true
 unfolding stands_in
+stands_in_of_member [] b m = elim m [ ]
 stands_in_of_member (x ∷ xs) b (Memᴰ.head e) = rw (eq-eqb x b (sym e))
 stands_in_of_member (x ∷ xs) b (Memᴰ.tail m) = rw (stands_in_of_member xs b m) (or-true (eqb x b))
 

@@ -1,4 +1,6 @@
 // The sixty-four bytes that a label may hold, and the check of a label field. Final: nobody edits this crate.
+#![tactic(auto)]
+
 ghost use Rattle.std.specs.Prelude.{◌+◌, ◌≤◌, length};
 ghost use Rattle.label.specs.Label.{ListedTold, LabelLength, LabelTold};
 ghost use Rattle.label.specs.Parts.{Run, SpacesTold};

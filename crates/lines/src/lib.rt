@@ -1,4 +1,6 @@
 // The lines of the printed plan, written over a lent buffer: the first line, and those of the rows; and the line of the range.
+#![tactic(auto)]
+
 ghost use Rattle.std.specs.Prelude.{◌≤◌};
 ghost use Rattle.rules.specs.Text.{first_line};
 ghost use Rattle.rules.specs.Range.{range_line};

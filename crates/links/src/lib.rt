@@ -1,4 +1,6 @@
 // The edges into each task, found from the last to the first.
+#![tactic(auto)]
+
 ghost use Rattle.reader.specs.Meaning.{ViewOf};
 ghost use Rattle.lookup.specs.Lookup.{workflow_of};
 ghost use Rattle.links.specs.Links.{Linked, LinkedAll};

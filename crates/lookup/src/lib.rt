@@ -1,4 +1,6 @@
 // Numbers and labels of a request, read where they stand in its bytes. Of a good request nothing is tested again.
+#![tactic(auto)]
+
 ghost use Rattle.std.specs.Prelude.{◌≡◌, ◌+◌, ◌≤◌, ◌<◌, length};
 ghost use Rattle.rules.specs.Fields.{E, size, M_processor, M_begin, M_end};
 ghost use Rattle.rules.specs.Workflow.{window_place, task_place, edge_place};

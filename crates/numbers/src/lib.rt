@@ -1,4 +1,6 @@
 // The larger, the lower and other small functions of numbers, which keep branches out of loops.
+#![tactic(auto)]
+
 ghost use Rattle.std.specs.Prelude.{◌≡◌, cond, ◌-◌, max, min};
 ghost use Rattle.rules.specs.Method.{or_one};
 

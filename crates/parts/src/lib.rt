@@ -1,4 +1,6 @@
 // Reads the parts of a request that hold several records: each record in order, a refusal handed straight up.
+#![tactic(auto)]
+
 ghost use Rattle.std.specs.Prelude.{◌≡◌};
 ghost use Rattle.rules.specs.Records.{minutes_at};
 ghost use Rattle.rules.specs.Reading.{each, prices_part, windows_part, task_part, tasks_part, edges_part};

@@ -1,4 +1,6 @@
 // The plan of a good request by the method that is asked for: the answer, and its rows in four arrays.
+#![tactic(auto)]
+
 ghost use Rattle.std.specs.Prelude.{◌≡◌, false, []};
 ghost use Rattle.rules.specs.Cycle.{cyclic};
 ghost use Rattle.rules.specs.Method.{by_HBCS};

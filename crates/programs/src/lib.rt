@@ -1,4 +1,6 @@
 // What the programs write: a text in a lent buffer, and how many bytes of it.
+#![tactic(auto)]
+
 ghost use Rattle.std.specs.Prelude.{◌≡◌, ◌-◌, ◌≤◌};
 ghost use Rattle.io.specs.Counts.{IsPrefixLen};
 ghost use Rattle.rules.specs.Text.{text_asked};

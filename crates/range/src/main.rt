@@ -1,4 +1,6 @@
 // The program: reads a request, prints what its cheapest plan and its HEFT plan cost, and writes that in one piece. "reads at most 16,384 bytes from standard input".
+#![tactic(auto)]
+
 use libc::{STDIN_FILENO, STDOUT_FILENO};
 
 fn main() {

@@ -1,5 +1,7 @@
 // The ranks of a request's tasks, where its edges have no cycle. A rank may be 0, so an array of them has 1 more than the rank of each task that is
 // ranked, and 0 for one that is not ranked yet.
+#![tactic(auto)]
+
 ghost use Rattle.std.specs.Prelude.{◌≡◌, ℕ, ◌+◌, ◌≤◌, ◌<◌, get_or};
 ghost use Rattle.rules.specs.Folds.{sum};
 ghost use Rattle.laws.specs.Bounds.{rank_most};

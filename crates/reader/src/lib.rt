@@ -1,4 +1,6 @@
 // Reads a whole request: its parts in order, each refusal handed straight up, and nothing after the last.
+#![tactic(auto)]
+
 ghost use Rattle.std.specs.Prelude.{◌≡◌};
 ghost use Rattle.rules.specs.Reading.{deadline_part, share_part, read_request};
 ghost use Rattle.parts.specs.Meaning.{meant_part};

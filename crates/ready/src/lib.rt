@@ -1,4 +1,6 @@
 // When a task's data is ready on each processor.
+#![tactic(auto)]
+
 ghost use Rattle.std.specs.Prelude.{◌≡◌, ◌≤◌, ◌<◌, length};
 ghost use Rattle.rules.specs.Start.{arrived};
 ghost use Rattle.reader.specs.Meaning.{ViewOf};

@@ -1,4 +1,6 @@
 // Why a task does not start sooner: what stands against another start of it, by the rows of a plan in arrays.
+#![tactic(auto)]
+
 ghost use Rattle.std.specs.Prelude.{◌≡◌, ◌≤◌, ◌<◌};
 ghost use Rattle.rules.specs.Start as rules;
 ghost use Rattle.rules.specs.Start.{arrived, overlap};

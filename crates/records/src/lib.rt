@@ -1,4 +1,6 @@
 // Reads one record of a request: the record with its fields and the cursor past it, or a refusal with its place.
+#![tactic(auto)]
+
 ghost use Rattle.std.specs.Prelude.{◌≡◌, ◌+◌, ◌≤◌, [], ◌++◌, length};
 ghost use Rattle.rules.specs.Fields.{byte};
 ghost use Rattle.rules.specs.Records.{first_fault, opening_by, price_checks};

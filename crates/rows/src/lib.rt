@@ -1,4 +1,6 @@
 // The plan of a request by the method that is asked for, its rows as structs: in a lent slice, or 64 of them by value.
+#![tactic(auto)]
+
 ghost use Rattle.std.specs.Prelude.{◌≡◌, ◌<◌, ◌≤◌, length, replicate};
 ghost use Rattle.laws.specs.Overwritten.{overwritten};
 ghost use Rattle.choosing.specs.Named.{meant_method};

@@ -1,1 +1,2 @@
 // Document 01 as definitions: no code, only specs/.
+#![tactic(auto)]

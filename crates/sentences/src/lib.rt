@@ -1,4 +1,6 @@
 // The line and the sentence of a reason, written over a lent buffer.
+#![tactic(auto)]
+
 ghost use Rattle.std.specs.Prelude.{◌≤◌, length};
 ghost use Rattle.rules.specs.Why.{told, why_text};
 ghost use Rattle.rules.specs.Why as rules;

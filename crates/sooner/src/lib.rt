@@ -1,4 +1,6 @@
 // Why a task does not start sooner than in the plan that the page answers with, by a request's bytes.
+#![tactic(auto)]
+
 ghost use Rattle.std.specs.Prelude.{◌≡◌};
 ghost use Rattle.rules.specs.Method.{by_HBCS};
 ghost use Rattle.rules.specs.Answer.{outcome_by};

@@ -1,5 +1,7 @@
 // The edges out of each task, which stand one after the other in a request: where they begin, and how many of the edges into each task come from one that is
 // not placed yet.
+#![tactic(auto)]
+
 ghost use Rattle.std.specs.Prelude.{◌≡◌, false, ◌+◌, ◌<◌, get_or, replicate};
 ghost use Rattle.reader.specs.Meaning.{ViewOf};
 ghost use Rattle.lookup.specs.Lookup.{workflow_of};

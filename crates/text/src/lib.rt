@@ -1,4 +1,6 @@
 // The printed plan of document 01, the range, and why a task does not start sooner, written into a lent buffer.
+#![tactic(auto)]
+
 ghost use Rattle.std.specs.Prelude.{◌≤◌, length};
 ghost use Rattle.rules.specs.Text.{text_asked};
 ghost use Rattle.rules.specs.Range.{range_text};

@@ -1,4 +1,6 @@
 // What is told in structs of numbers that C can read: answers, costs, reasons, a deadline and a share.
+#![tactic(auto)]
+
 ghost use Rattle.std.specs.Prelude.{◌≡◌};
 ghost use Rattle.reader.specs.Meaning.{meant_deadline, meant_share};
 ghost use Rattle.planner.specs.Planned.{meant_answer, meant_costs};

@@ -1,5 +1,7 @@
 // The program: reads a request, prints why a task of it does not start at a minute, and writes that in one piece. "is called with the task's number and a start".
 // An argument that is missing, or has more than 32 bytes, counts as 0. "reads at most 16,384 bytes from standard input".
+#![tactic(auto)]
+
 use libc::{STDIN_FILENO, STDOUT_FILENO};
 
 fn main() {

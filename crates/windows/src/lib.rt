@@ -1,4 +1,6 @@
 // Reads one maintenance window of a request.
+#![tactic(auto)]
+
 ghost use Rattle.std.specs.Prelude.{◌≡◌, ◌+◌, ◌*◌, ◌≤◌, [], ◌∷◌, length};
 ghost use Rattle.rules.specs.Fields.{M, M_processor, M_begin};
 ghost use Rattle.rules.specs.Records.{unless, first_fault, follows, above, apart, window_ranges, window_at};

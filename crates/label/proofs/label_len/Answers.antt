@@ -3,12 +3,10 @@ use mathlib.Core.Path.{◌≡◌}
 use Prim.Native.Nat.{ℕ, ◌+◌, ◌-◌, ◌<◌}
 use native.Mathlib.Omega.{arith}
 use mathlib.Core.List.{List}
-use borrow.Author.Rules.{rules}
 use Rattle.label.specs.Label.{Label, LabelLength}
 use Rattle.label.specs.Parts.{Run}
 use Rattle.label.specs.ListLaws.{space_not_listed}
-use Rattle.label.proofs.label_len.Statement.{statement}
-use Rattle.label.proofs.label_len.Tie as tie
+use Rattle.label.proofs.label_len.Goals as goal
 
 module _ {s : List ℕ} {at : ℕ} where
   no_label : ((len : ℕ) → Label s at len → ⊥) → LabelLength s at 0
@@ -20,61 +18,32 @@ module _ {s : List ℕ} {at : ℕ} where
       let not_after : k < len → ⊥ = λ h. run.stops (omega arith) (l.of_the_list k h) in
       omega arith
 
-returns : tie.Need-returns
-returns c = no_label (λ len l. omega arith)
+pub returns-then-s-at : goal.returns-then-s-at
+returns-then-s-at c = no_label (λ len l. omega arith)
 
-sub-if2 : tie.Need-overflow-sub-if2
-sub-if2 c = search rules
+pub returns-then-s-at-lt8 : goal.returns-then-s-at-lt8
+returns-then-s-at-lt8 c = no_label (λ len l. omega arith)
 
-returns-2 : tie.Need-returns-2
-returns-2 c = no_label (λ len l. omega arith)
-
-run-requires : tie.Need-run-requires
-run-requires c κs = search rules
-
-add-spaces : tie.Need-overflow-add-spaces
-add-spaces c = search rules
-
-add-spaces-2 : tie.Need-overflow-add-spaces-2
-add-spaces-2 c = search rules
-
-spaces-requires : tie.Need-spaces-requires
-spaces-requires c κs = search rules
-
-returns-3 : tie.Need-returns-3
-returns-3 c =
-    let run = c.before.before.run.ensures in
-    let at = c.before.before.before.before.before.before.args.at in
+pub returns-then-spaces : goal.returns-then-spaces
+returns-then-spaces c =
+    let run = c.run-k.ensures in
+    let at = c.args.at in
     record {
       label = λ h. record {
         whole = omega arith;
         one_or_more = h;
         eight_or_fewer = omega arith;
         of_the_list = run.of_the_list;
-        then_spaces = λ k from below. c.before.spaces.ensures.passes c.if3.true (at + k) (omega arith) (omega arith);
+        then_spaces = λ k from below. c.spaces.ensures.passes c.if-spaces.true (at + k) (omega arith) (omega arith);
       };
       none = λ e len l. omega (arith, label_ends_with_run run l);
     }
 
-returns-4 : tie.Need-returns-4
-returns-4 c =
-    let at = c.before.before.before.before.before.before.args.at in
-    let (i, from, below, other) = c.before.spaces.ensures.fails c.if3.false in
+pub returns-else-spaces : goal.returns-else-spaces
+returns-else-spaces c =
+    let at = c.args.at in
+    let (i, from, below, other) = c.spaces.ensures.fails c.if-spaces.false in
     no_label (λ len l.
-    let ends = label_ends_with_run c.before.before.run.ensures l in
+    let ends = label_ends_with_run c.run-k.ensures l in
     let same : at + (i - at) ≡ i = omega arith in
     other (rw same at (l.then_spaces (i - at) (omega arith) (omega arith))))
-
-pub label_len_spec : {M : Type 1} → statement M
-label_len_spec =
-    tie.close
-    (tie.spec
-    returns
-    sub-if2
-    returns-2
-    run-requires
-    add-spaces
-    add-spaces-2
-    spaces-requires
-    returns-3
-    returns-4)
