@@ -28,7 +28,9 @@ def of_kit(text):
 
 
 def main():
-    antt = sorted(glob.glob("crates/*/specs/*.antt") + glob.glob("crates/*/proofs/**/*.antt", recursive=True))
+    antt = sorted(glob.glob("crates/*/specs/**/*.antt", recursive=True) + glob.glob("crates/*/proofs/**/*.antt", recursive=True))
+    # Invariants and answers are named as the kit names their goals; they are written after this ran.
+    antt = [path for path in antt if not path.endswith(("/Invariants.antt", "/Answers.antt"))]
     declared = set()
     for path in antt:
         walk = re.search(r"/proofs/[^/]+/Proof\.antt$", path)

@@ -35,7 +35,7 @@ module _ (W : Workflow) (range : InRange W) where
 
   module _ {M : Name} {rows : List Placed} (p : MethodsPlan M W rows) where
     pub length_at_most : length_of rows ≤ finish_most
-    length_at_most = omega (arith, length_by_steps M rows p.steps, p.none-twice, range.tasks_in.to_high)
+    length_at_most = omega (arith, length_by_steps M rows p.steps, p.none_twice, range.tasks_in.to_high)
 
     row_cost_at_most : (i : ℕ) → i < W.tasks → (row_of rows i).cost ≤ cost_most
     row_cost_at_most i l = omega (arith, (p.rows_true i l).cost, cost_at_most W range i (row_of rows i).processor)

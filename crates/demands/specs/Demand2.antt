@@ -140,12 +140,12 @@ plan_held M s lent {n} {l} {c} {left} e row holds =
     let W = workflow_for M s b.request in
     record {
       request = b.request;
-      passes = (read_iff_passes s b.request).0 (b.read-to, b.is_read);
+      passes = (read_iff_passes s b.request).0 (b.read_to, b.is_read);
       placeable = b.placeable;
       held =
           told (cc b.answer_is) (cc b.answer_is) (cc b.answer_is) (cc b.answer_is)
-          (held_by W (good_workflow M s b.is_read) b.rows b.methods_plan (held_to_so M s b.request b.rows b.keeps-to) row
-          (holds W b.rows b.outcome-is));
+          (held_by W (good_workflow M s b.is_read) b.rows b.methods_plan (held_to_so M s b.request b.rows b.keeps_to) row
+          (holds W b.rows b.outcome_is));
     }
   where
     told :
@@ -171,14 +171,14 @@ pub later_rows_stay : (M : Name) (s : List ℕ) (lent : List Row) {n l c left : 
 unfolding rows_asked
 later_rows_stay M s lent {n} e =
     let b = plan_behind M s (length lent) e in
-    subst (λ k. drop k (rows_asked M s lent) ≡ drop k lent) (sym (tasks_told b)) (later_rows_kept (outcome_asked M s (length lent)) lent b.outcome-is)
+    subst (λ k. drop k (rows_asked M s lent) ≡ drop k lent) (sym (tasks_told b)) (later_rows_kept (outcome_asked M s (length lent)) lent b.outcome_is)
 
 pub later_numbers_stay : (M : Name) (s : List ℕ) (lent : Buffers) {n l c left : ℕ} → answer_asked M s (rows_lent lent) ≡ planned n l c left
     → StaysFrom n lent (buffers_asked M s lent)
 unfolding buffers_asked
 later_numbers_stay M s lent {n} e =
     let b = plan_behind M s (rows_lent lent) e in
-    subst (λ k. StaysFrom k lent (buffers_asked M s lent)) (sym (tasks_told b)) (later_numbers_kept (outcome_asked M s (rows_lent lent)) lent b.outcome-is)
+    subst (λ k. StaysFrom k lent (buffers_asked M s lent)) (sym (tasks_told b)) (later_numbers_kept (outcome_asked M s (rows_lent lent)) lent b.outcome_is)
 
 -- No row comes or goes, and no number of a buffer.
 pub as_many_rows : (M : Name) (s : List ℕ) (lent : List Row) → length (rows_asked M s lent) ≡ length lent
@@ -188,7 +188,7 @@ as_many_rows M s lent = go (outcome_asked M s (length lent)) refl
     go : (o : Outcome) → outcome_asked M s (length lent) ≡ o → length (written o lent) ≡ length lent
     go (plan W rows) e =
         let b = plan_behind M s (length lent) (ap answer_of e) in
-        length_overwritten W.tasks (row_of rows) lent (omega (arith, tasks_told b, b.placeable.enough-rows))
+        length_overwritten W.tasks (row_of rows) lent (omega (arith, tasks_told b, b.placeable.enough_rows))
     go (refusal number place) e = refl
 
 pub as_many_numbers : (M : Name) (s : List ℕ) (lent : Buffers) → SameLengths lent (buffers_asked M s lent)
@@ -198,5 +198,5 @@ as_many_numbers M s lent = go (outcome_asked M s (rows_lent lent)) refl
     go : (o : Outcome) → outcome_asked M s (rows_lent lent) ≡ o → SameLengths lent (buffers_written o lent)
     go (plan W rows) e =
         let b = plan_behind M s (rows_lent lent) (ap answer_of e) in
-        lengths_kept W rows lent (omega (arith, tasks_told b, b.placeable.enough-rows))
+        lengths_kept W rows lent (omega (arith, tasks_told b, b.placeable.enough_rows))
     go (refusal number place) e = unfold buffers_written column_after in record { processors = refl; starts = refl; finishes = refl; costs = refl }

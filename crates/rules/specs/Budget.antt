@@ -38,7 +38,7 @@ cost_alone M W = spent (place M (unbound W) W.tasks)
 unfoldable pub budget_between : (k cheapest HEFT_cost : ℕ) → ℕ
 budget_between k cheapest HEFT_cost = cheapest + k * (HEFT_cost - cheapest) / 1_000
 
--- "cheapest is the cheapest total, which is what the cheapest plan costs" (`cheapest-plan-costs` in the demands).
+-- "cheapest is the cheapest total, which is what the cheapest plan costs" (`cheapest_plan_costs` in the demands).
 unfoldable pub budget_of : Share → Workflow → ℕ
 budget_of no_share W = W.budget
 budget_of (thousandths k) W = budget_between k (cheapest_total W) (cost_alone HEFT W)

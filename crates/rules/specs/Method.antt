@@ -47,7 +47,7 @@ score q j =
     + (latest_finish q - q.finish j) * or_one (B q) * or_one q.RB
 
 -- "The highest score among those that may be taken wins; ties to earlier finish, then lower number." Where none may be taken no processor is
--- preferred to another; once the cheapest total fits, one always may (`cheapest-can-always-be-taken` in the demands).
+-- preferred to another; once the cheapest total fits, one always may (`cheapest_can_always_be_taken` in the demands).
 unfoldable pub preferred : Question → Order
 preferred q = among (may_be_taken q) (higher (score q) (lower q.finish tie))
 

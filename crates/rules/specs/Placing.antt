@@ -18,7 +18,7 @@ start_of W so_far i j = start_on (busy W so_far j) (ready_for W so_far i j) (W.m
 unfoldable pub finish_of : Workflow → List Placed → ℕ → ℕ → ℕ
 finish_of W so_far i j = start_of W so_far i j + W.minutes i j
 
--- "RB: budget less the costs already chosen." Once the cheapest total fits, these never come to more than the budget (`stays-affordable` in the
+-- "RB: budget less the costs already chosen." Once the cheapest total fits, these never come to more than the budget (`stays_affordable` in the
 -- demands), so it is never below 0.
 unfoldable pub RB : Workflow → List Placed → ℕ
 RB W so_far = W.budget - spent so_far

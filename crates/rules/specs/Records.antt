@@ -112,7 +112,7 @@ unfoldable pub apart : List ℕ → (before at : ℕ) → Bool
 apart s before at = not (eqb (M_processor s before) (M_processor s at)) || leb (M_end s before) (M_begin s at)
 
 -- "a processor's fifth window": windows rise by processor, so that the four before it are of its processor where the fourth before it is
--- (`fifth-after-four` in the demands).
+-- (`fifth_after_four` in the demands).
 unfoldable pub fifth : List ℕ → (at k : ℕ) → Bool
 fifth s at k = leb 4 k && eqb (M_processor s (at - 4 * size M)) (M_processor s at)
 

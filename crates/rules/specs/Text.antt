@@ -2,7 +2,6 @@
 use Rattle.std.specs.Prelude.{ℕ, zero, suc, ◌+◌, ◌/◌, ◌%◌, cond, List, [], ◌∷◌, ◌++◌, take, ltb}
 use Prim.Native.Char.{code}
 use Prim.Native.String.{String}
-use Prim.Native.String as String
 use Rattle.rules.specs.Labels.{label}
 use Rattle.rules.specs.Rows.{Row, row_of}
 use Rattle.rules.specs.Method.{Name, by_HBCS}

@@ -52,7 +52,7 @@ unfoldable pub window_or : Met → Why → Why
 window_or none otherwise = otherwise
 window_or (met v) otherwise = in_window v.begin v.end
 
--- "data, then windows, then rows": by the rows of a plan, for a start t of task i. Something stands against a start that is below its own (`nothing-earlier` in the
+-- "data, then windows, then rows": by the rows of a plan, for a start t of task i. Something stands against a start that is below its own (`nothing_earlier` in the
 -- demands), so where it is neither data nor a window it is a row.
 unfoldable pub why_placed : Workflow → (sits begins ends : ℕ → ℕ) → (i t : ℕ) → Why
 why_placed W sits begins ends i t =

@@ -2,28 +2,28 @@
 use Rattle.std.specs.Prelude.{ℕ, ◌+◌, ◌≤◌, ◌≡◌, refl, List, length}
 use Rattle.std.proofs.Math.Path.{ap}
 use Rattle.std.proofs.Common.{◌∙◌, arith}
-use Rattle.rules.specs.Fields.{kind-byte, size, byte}
-use Rattle.rules.specs.Records.{Record, opening-by, opening, record-at}
-use Rattle.demands.specs.Demand1.Wanted.{Wanted, kind-of, Whole, Passes}
-use Rattle.demands.specs.Demand1.Reads.{DueHere, only, IsDue, that-one, Fault, no-kind-byte, cut_short, kind-not-due}
-use Rattle.demands.specs.Demand1.Tells.{leb_tells, ltb-tells, eqb_tells}
-use Rattle.demands.specs.Demand1.Goes.{Goes, Checked, goes-check}
+use Rattle.rules.specs.Fields.{kind_byte, size, byte}
+use Rattle.rules.specs.Records.{Record, opening_by, opening, record_at}
+use Rattle.demands.specs.Demand1.Wanted.{Wanted, kind_of, Whole, Passes}
+use Rattle.demands.specs.Demand1.Reads.{DueHere, only, IsDue, that_one, Fault, no_kind_byte, cut_short, kind_not_due}
+use Rattle.demands.specs.Demand1.Tells.{leb_tells, ltb_tells, eqb_tells}
+use Rattle.demands.specs.Demand1.Goes.{Goes, Checked, goes_check}
 
 -- At `at`, not past the input's end, w is due, and no other record of the kind that stands there.
 pub record DueAt (s : List ℕ) (due : DueHere) (at : ℕ) (w : Wanted) : Type 0 where
   pub inside : at ≤ length s
-  pub is-due : IsDue due w
-  pub no_other : (v : Wanted) → IsDue due v → byte s at ≡ kind-byte (kind-of v) → v ≡ w
+  pub is_due : IsDue due w
+  pub no_other : (v : Wanted) → IsDue due v → byte s at ≡ kind_byte (kind_of v) → v ≡ w
 
-pub only-due : {s : List ℕ} {at : ℕ} (w : Wanted) → at ≤ length s → DueAt s (only w) at w
-only-due w inside = record { inside = inside; is-due = that-one; no_other = λ v d k. one d }
+pub only_due : {s : List ℕ} {at : ℕ} (w : Wanted) → at ≤ length s → DueAt s (only w) at w
+only_due w inside = record { inside = inside; is_due = that_one; no_other = λ v d k. one d }
   where
     one : {v : Wanted} → IsDue (only w) v → v ≡ w
-    one that-one = refl
+    one that_one = refl
 
 -- The record at `at` passes, and `next` is the place past it.
 pub record Past (s : List ℕ) (at : ℕ) (w : Wanted) (next : ℕ) (r : Record) : Type 0 where
-  pub ends : next ≡ at + size (kind-of w)
+  pub ends : next ≡ at + size (kind_of w)
   pub passes : Passes s at w
 
 -- There is a fault at `at`.
@@ -37,19 +37,19 @@ module _ (s : List ℕ) {due : DueHere} (at : ℕ) (w : Wanted) (a : DueAt s due
 
   -- Kind and whole body; then what the kind checks of its own.
   abbrev pub Own : List ℕ → Record → Type 0
-  Own checks r = Checked (Past s at w) (Faulty s due at) at (at + size (kind-of w)) r checks
+  Own checks r = Checked (Past s at w) (Faulty s due at) at (at + size (kind_of w)) r checks
 
-  pub opened-goes :
+  pub opened_goes :
       (checks : List ℕ) (r : Record) → (Whole s at w → Own checks r)
-      → Goes (Past s at w) (Faulty s due at) (record-at s at (kind-of w) checks r)
-  unfolding record-at opening opening-by
-  opened-goes checks r own =
-      (goes-check (ltb-tells at (length s)) 0
+      → Goes (Past s at w) (Faulty s due at) (record_at s at (kind_of w) checks r)
+  unfolding record_at opening opening_by
+  opened_goes checks r own =
+      (goes_check (ltb_tells at (length s)) 0
       (λ there.
-      goes-check (eqb_tells (byte s at) (kind-byte (kind-of w))) 1
+      goes_check (eqb_tells (byte s at) (kind_byte (kind_of w))) 1
       (λ kind.
-      goes-check (leb_tells (at + size (kind-of w)) (length s)) 0 (λ whole. own (record { of-kind = kind; to-its-end = whole }))
-      (λ short. stop (cut_short a.is-due there kind (omega arith))))
-      (λ other. stop (kind-not-due a.is-due there (λ v d k. other (k ∙ ap (λ x. kind-byte (kind-of x)) (a.no_other v d k))))))
-      (λ missing. stop (no-kind-byte a.is-due (omega (arith, a.inside))))
+      goes_check (leb_tells (at + size (kind_of w)) (length s)) 0 (λ whole. own (record { of_kind = kind; to_its_end = whole }))
+      (λ short. stop (cut_short a.is_due there kind (omega arith))))
+      (λ other. stop (kind_not_due a.is_due there (λ v d k. other (k ∙ ap (λ x. kind_byte (kind_of x)) (a.no_other v d k))))))
+      (λ missing. stop (no_kind_byte a.is_due (omega (arith, a.inside))))
       ).goes

@@ -3,11 +3,11 @@ use Rattle.std.specs.Prelude.{ℕ, ◌≤◌, ◌≡◌, List, [], ◌∷◌}
 use Rattle.std.proofs.Common.{arith}
 use Rattle.rules.specs.Workflow.{Workflow}
 use Rattle.rules.specs.Rows.{Placed}
-use Rattle.rules.specs.Method.{Question, best, score, by-HBCS}
+use Rattle.rules.specs.Method.{Question, best, score, by_HBCS}
 use Rattle.rules.specs.Placing.{question}
-use Rattle.demands.specs.Ground.Best.{IsBest, MayBeTaken, best-is-best, may-of-test, test-of-may}
+use Rattle.demands.specs.Ground.Best.{IsBest, MayBeTaken, best_is_best, may_of_test, test_of_may}
 use Rattle.demands.specs.Demand2.HBCSChoice.{Wins}
-use Rattle.demands.specs.Demand2.Worthiness.{AtMost, worthiness, scores-compare-worthiness}
+use Rattle.demands.specs.Demand2.Worthiness.{AtMost, worthiness, scores_compare_worthiness}
 use Rattle.demands.specs.Demand2.Steps.{EachStep, AsTheMethod}
 
 -- "The highest score among those that may be taken wins; ties to earlier finish, then lower number. This is equation (10) of 001 over a common
@@ -17,20 +17,20 @@ pub record Chosen (q : Question) (b j : ℕ) : Type 0 where
   pub may : MayBeTaken q b j
   pub highest : (i : ℕ) → MayBeTaken q b i → score q i ≤ score q j
   pub worthiest : (i : ℕ) → MayBeTaken q b i → AtMost (worthiness q i) (worthiness q j)
-  pub then-earliest : (i : ℕ) → MayBeTaken q b i → score q i ≡ score q j → q.finish j ≤ q.finish i
-  pub then-lowest : (i : ℕ) → MayBeTaken q b i → score q i ≡ score q j → q.finish i ≡ q.finish j → j ≤ i
+  pub then_earliest : (i : ℕ) → MayBeTaken q b i → score q i ≡ score q j → q.finish j ≤ q.finish i
+  pub then_lowest : (i : ℕ) → MayBeTaken q b i → score q i ≡ score q j → q.finish i ≡ q.finish j → j ≤ i
 
 module _ (q : Question) where
-  chosen-of-wins : (j : ℕ) → Wins q j → Chosen q (best q) j
-  chosen-of-wins j w =
-      let highest : (i : ℕ) → MayBeTaken q (best q) i → score q i ≤ score q j = λ i may. w.highest i may.processor (test-of-may q i may) in
+  chosen_of_wins : (j : ℕ) → Wins q j → Chosen q (best q) j
+  chosen_of_wins j w =
+      let highest : (i : ℕ) → MayBeTaken q (best q) i → score q i ≤ score q j = λ i may. w.highest i may.processor (test_of_may q i may) in
       record {
-        best = best-is-best q (omega (arith, w.processor));
-        may = may-of-test q j w.processor w.may;
+        best = best_is_best q (omega (arith, w.processor));
+        may = may_of_test q j w.processor w.may;
         highest = highest;
-        worthiest = λ i may. (scores-compare-worthiness q i j).0 (highest i may);
-        then-earliest = λ i may. w.then-earliest i may.processor (test-of-may q i may);
-        then-lowest = λ i may. w.then-lowest i may.processor (test-of-may q i may);
+        worthiest = λ i may. (scores_compare_worthiness q i j).0 (highest i may);
+        then_earliest = λ i may. w.then_earliest i may.processor (test_of_may q i may);
+        then_lowest = λ i may. w.then_lowest i may.processor (test_of_may q i may);
       }
 
 -- Each task of a plan by HBCS is on the processor so chosen.
@@ -38,9 +38,9 @@ pub record ChoiceAsWritten (W : Workflow) (before : List Placed) (p : Placed) : 
   pub best : ℕ
   pub chosen : Chosen (question W before p.task) best p.row.processor
 
-pub choices-as-written : (W : Workflow) (rows : List Placed) → EachStep (AsTheMethod by-HBCS W) rows → EachStep (ChoiceAsWritten W) rows
-choices-as-written W [] steps = tt
-choices-as-written W (p ∷ before) steps = (
-  record { best = best (question W before p.task); chosen = chosen-of-wins (question W before p.task) p.row.processor steps.0.chosen },
-  choices-as-written W before steps.1,
+pub choices_as_written : (W : Workflow) (rows : List Placed) → EachStep (AsTheMethod by_HBCS W) rows → EachStep (ChoiceAsWritten W) rows
+choices_as_written W [] steps = tt
+choices_as_written W (p ∷ before) steps = (
+  record { best = best (question W before p.task); chosen = chosen_of_wins (question W before p.task) p.row.processor steps.0.chosen },
+  choices_as_written W before steps.1,
 )

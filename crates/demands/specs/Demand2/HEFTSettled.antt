@@ -5,22 +5,22 @@ use Rattle.rules.specs.Folds.{sum}
 use Rattle.rules.specs.Workflow.{Workflow}
 use Rattle.rules.specs.Cycle.{Leads}
 use Rattle.rules.specs.Ranks.{R}
-use Rattle.laws.specs.Onward.{holds-at-last}
+use Rattle.laws.specs.Onward.{holds_at_last}
 use Rattle.demands.specs.Ground.GoodWorkflow.{GoodWorkflow}
-use Rattle.demands.specs.Demand2.Order.{R-at-least}
+use Rattle.demands.specs.Demand2.Order.{R_at_least}
 use Rattle.demands.specs.Demand2.Worthiness.{Fraction, plus, AtMost}
-use Rattle.demands.specs.Demand2.HEFTRank.{Same, mean, along, Through, HEFTRank, R-attained}
+use Rattle.demands.specs.Demand2.HEFTRank.{Same, mean, along, Through, HEFTRank, R_attained}
 
 -- The fraction p / u against the mean s / m, the transfer c and the next rank n / v, which is r / m.
 module _ (m s c p u n v r : ℕ) (some : 1 ≤ v) (next : n * m ≡ r * v) where
-  abbrev sum-along : Fraction
-  sum-along = plus (record { over = s; under = m }) (plus (record { over = c; under = 1 }) (record { over = n; under = v }))
+  abbrev sum_along : Fraction
+  sum_along = plus (record { over = s; under = m }) (plus (record { over = c; under = 1 }) (record { over = n; under = v }))
 
-  at-most-along : AtMost (record { over = p; under = u }) sum-along → p * m ≤ (s + (m * c + r)) * u
-  at-most-along h = le_of_mul-le-mul_right {k = v} (omega (arith, h, ap (λ x. x * u) next)) some
+  at_most_along : AtMost (record { over = p; under = u }) sum_along → p * m ≤ (s + (m * c + r)) * u
+  at_most_along h = le_of_mul-le-mul_right {k = v} (omega (arith, h, ap (λ x. x * u) next)) some
 
-  at-least-along : AtMost sum-along (record { over = p; under = u }) → (s + (m * c + r)) * u ≤ p * m
-  at-least-along h = le_of_mul-le-mul_right {k = v} (omega (arith, h, ap (λ x. x * u) next)) some
+  at_least_along : AtMost sum_along (record { over = p; under = u }) → (s + (m * c + r)) * u ≤ p * m
+  at_least_along h = le_of_mul-le-mul_right {k = v} (omega (arith, h, ap (λ x. x * u) next)) some
 
 module _ (W : Workflow) (good : GoodWorkflow W) (acyclic : (i : ℕ) → Leads W i i → ⊥) (rank : ℕ → Fraction)
     (positive : (i : ℕ) → i < W.tasks → 1 ≤ (rank i).under) (heft : HEFTRank W rank) where
@@ -35,23 +35,23 @@ module _ (W : Workflow) (good : GoodWorkflow W) (acyclic : (i : ℕ) → Leads W
     some = positive (W.to e) (good.to e l)
 
     -- The rank of the edge's first task, if it is attained along e, is at most R over m; and it is at least what R is along e.
-    attained-at-most : Same (rank (W.from e)) (along W rank e) → (rank (W.from e)).over * m ≤ R W (W.from e) * (rank (W.from e)).under
-    attained-at-most same =
+    attained_at_most : Same (rank (W.from e)) (along W rank e) → (rank (W.from e)).over * m ≤ R W (W.from e) * (rank (W.from e)).under
+    attained_at_most same =
         let u = (rank (W.from e)).under in
         let at_most : AtMost (rank (W.from e)) (along W rank e) = omega (arith, same) in
-        let here = at-most-along m _ (W.transfer e) (rank (W.from e)).over u _ _ (R W (W.to e)) some next at_most in
-        omega (arith, here, mul-le-mul_right u (R-at-least W good acyclic e l))
+        let here = at_most_along m _ (W.transfer e) (rank (W.from e)).over u _ _ (R W (W.to e)) some next at_most in
+        omega (arith, here, mul-le-mul_right u (R_at_least W good acyclic e l))
 
-    at-least-attained :
+    at_least_attained :
         R W (W.from e) ≡ sum m (W.minutes (W.from e)) + (m * W.transfer e + R W (W.to e))
         → R W (W.from e) * (rank (W.from e)).under ≤ (rank (W.from e)).over * m
-    at-least-attained is =
+    at_least_attained is =
         let u = (rank (W.from e)).under in
-        let here = at-least-along m _ (W.transfer e) (rank (W.from e)).over u _ _ (R W (W.to e)) some next (heft.at_least e l) in
+        let here = at_least_along m _ (W.transfer e) (rank (W.from e)).over u _ _ (R W (W.to e)) some next (heft.at_least e l) in
         omega (arith, here, ap (λ x. x * u) is)
 
-  is-R : (i : ℕ) → i < W.tasks → ((e : ℕ) → e < W.edges → W.from e ≡ i → IsR (W.to e)) → IsR i
-  is-R i l onward = go onward (heft.attained i l) (R-attained W good acyclic i l)
+  is_R : (i : ℕ) → i < W.tasks → ((e : ℕ) → e < W.edges → W.from e ≡ i → IsR (W.to e)) → IsR i
+  is_R i l onward = go onward (heft.attained i l) (R_attained W good acyclic i l)
     where
       go :
           ((e : ℕ) → e < W.edges → W.from e ≡ i → IsR (W.to e))
@@ -59,13 +59,13 @@ module _ (W : Workflow) (good : GoodWorkflow W) (acyclic : (i : ℕ) → Leads W
           → Through W i (R W i ≡ sum m (W.minutes i)) (λ e. R W i ≡ sum m (W.minutes (W.from e)) + (m * W.transfer e + R W (W.to e)))
           → IsR i
       go next (inl (none, same)) (inl (none', is)) = rw is same
-      go next (inl (none, same)) (inr (e, k, from-i, is)) = absurd (none e k from-i)
-      go next (inr (e, k, from-i, same)) (inl (none, is)) = absurd (none e k from-i)
-      go next (inr (e, k, from-i, same)) (inr (e', k', from-i', is)) =
-          let most-is = attained-at-most e k (next e k from-i) (subst (λ x. Same (rank x) (along W rank e)) (sym from-i) same) in
-          let least-is = at-least-attained e' k' (next e' k' from-i') (ap (R W) from-i' ∙ is) in
-          omega (arith, rw from-i at most-is, rw from-i' at least-is)
+      go next (inl (none, same)) (inr (e, k, from_i, is)) = absurd (none e k from_i)
+      go next (inr (e, k, from_i, same)) (inl (none, is)) = absurd (none e k from_i)
+      go next (inr (e, k, from_i, same)) (inr (e', k', from_i', is)) =
+          let most_is = attained_at_most e k (next e k from_i) (subst (λ x. Same (rank x) (along W rank e)) (sym from_i) same) in
+          let least_is = at_least_attained e' k' (next e' k' from_i') (ap (R W) from_i' ∙ is) in
+          omega (arith, rw from_i at most_is, rw from_i' at least_is)
 
   -- HEFT's rank is R over m.
-  pub HEFTs-rank-is-R-over-m : (i : ℕ) → i < W.tasks → Same (rank i) (record { over = R W i; under = W.processors })
-  HEFTs-rank-is-R-over-m = holds-at-last W good.to acyclic (λ n. IsR) (λ n. is-R)
+  pub HEFTs_rank_is_R_over_m : (i : ℕ) → i < W.tasks → Same (rank i) (record { over = R W i; under = W.processors })
+  HEFTs_rank_is_R_over_m = holds_at_last W good.to acyclic (λ n. IsR) (λ n. is_R)

@@ -16,12 +16,12 @@ StartAsWritten W before p =
     let j = p.row.processor in
     Starts (busy W before j) (ready_for W before p.task j) (W.minutes p.task j) p.row.start
 
-start-as-written : (M : Name) (W : Workflow) (before : List Placed) (p : Placed) → AsTheMethod M W before p → StartAsWritten W before p
+start_as_written : (M : Name) (W : Workflow) (before : List Placed) (p : Placed) → AsTheMethod M W before p → StartAsWritten W before p
 unfolding row_on start_of
-start-as-written M W before p step =
+start_as_written M W before p step =
     subst⁻¹ (Starts (busy W before p.row.processor) (ready_for W before p.task p.row.processor) (W.minutes p.task p.row.processor))
     (ap (λ r. r.start) step.row) (start_is _ _ _)
 
-pub starts-as-written : (M : Name) (W : Workflow) (rows : List Placed) → EachStep (AsTheMethod M W) rows → EachStep (StartAsWritten W) rows
-starts-as-written M W [] steps = tt
-starts-as-written M W (p ∷ before) steps = (start-as-written M W before p steps.0, starts-as-written M W before steps.1)
+pub starts_as_written : (M : Name) (W : Workflow) (rows : List Placed) → EachStep (AsTheMethod M W) rows → EachStep (StartAsWritten W) rows
+starts_as_written M W [] steps = tt
+starts_as_written M W (p ∷ before) steps = (start_as_written M W before p steps.0, starts_as_written M W before steps.1)

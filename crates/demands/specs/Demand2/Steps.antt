@@ -2,13 +2,13 @@
 use Rattle.std.specs.Prelude.{ℕ, ◌≤◌, ◌<◌, ◌≡◌, refl, List, [], ◌∷◌}
 use Rattle.std.proofs.Math.Path.{subst}
 use Rattle.rules.specs.Workflow.{Workflow}
-use Rattle.rules.specs.Rows.{Placed, is-placed}
+use Rattle.rules.specs.Rows.{Placed, is_placed}
 use Rattle.rules.specs.Method.{Method, Name, method}
 use Rattle.rules.specs.Placing.{question, row_on}
 use Rattle.laws.specs.NextTask.{MayBeNext}
-use Rattle.demands.specs.Demand2.Order.{HighestLeft, next-task-highest}
+use Rattle.demands.specs.Demand2.Order.{HighestLeft, next_task_highest}
 use Rattle.demands.specs.Demand2.Built.{Next, placed_on, Built, at_first, one_more}
-use Rattle.demands.specs.Demand2.Choices.{ChosenBy, FitsBy, chosen-so}
+use Rattle.demands.specs.Demand2.Choices.{ChosenBy, FitsBy, chosen_so}
 
 -- The newest row stands first, and before it those that were there.
 abbrev pub EachStep : (List Placed → Placed → Type 0) → List Placed → Type 0
@@ -26,20 +26,20 @@ each_step M W step each (one_more {before = before} {i = i} {j = j} built next) 
 -- what follows from that.
 pub record AsTheMethod (M : Name) (W : Workflow) (before : List Placed) (p : Placed) : Type 0 where
   pub task : p.task < W.tasks
-  pub may-be-next : MayBeNext W (is-placed before) p.task
-  pub highest-left : HighestLeft W (is-placed before) p.task
+  pub may_be_next : MayBeNext W (is_placed before) p.task
+  pub highest_left : HighestLeft W (is_placed before) p.task
   pub chosen : ChosenBy M (question W before p.task) p.row.processor
   pub row : p.row ≡ row_on W before p.task p.row.processor
 
-pub steps-as-the-method :
+pub steps_as_the_method :
     (M : Name) (W : Workflow) → 1 ≤ W.processors → FitsBy M W → {rows : List Placed} → Built (method M) W rows → EachStep (AsTheMethod M W) rows
-steps-as-the-method M W some fits =
+steps_as_the_method M W some fits =
     each_step (method M) W (AsTheMethod M W) (λ before i j built next.
     unfold row_on question in
     record {
       task = next.task;
-      may-be-next = next.may;
-      highest-left = subst (HighestLeft W (is-placed before)) next.is-next (next-task-highest W (is-placed before));
-      chosen = subst (ChosenBy M (question W before i)) next.chosen (chosen-so M W some fits built i next.task next.may.left);
+      may_be_next = next.may;
+      highest_left = subst (HighestLeft W (is_placed before)) next.is_next (next_task_highest W (is_placed before));
+      chosen = subst (ChosenBy M (question W before i)) next.chosen (chosen_so M W some fits built i next.task next.may.left);
       row = refl;
     })

@@ -10,97 +10,97 @@ use Rattle.std.proofs.Math.Nat.{mul-add, mul-sub}
 use Rattle.std.proofs.Math.Dec.{leb}
 use Rattle.std.proofs.lemmas.Bool.{lt-leb}
 use Rattle.rules.specs.Orders.{tie, among}
-use Rattle.rules.specs.Method.{Question, best, may-be-taken, latest-finish, B, F, score, preferred, HBCS, Cheapest, HEFT, Name, by-HBCS, by-cheapest, by-HEFT, method}
-use Rattle.laws.specs.Tests.{leb-multiplied}
-use Rattle.laws.specs.Folds.{largest-multiplied, lowest-multiplied}
-use Rattle.laws.specs.Orders.{lower-multiplied, higher-multiplied, among_same}
-use Rattle.laws.specs.First.{first-same}
-use Rattle.demands.specs.Ground.MethodLaws.{multiplied-question, KeepsChoices}
-use Rattle.demands.specs.Ground.Best.{best-below}
-use Rattle.demands.specs.Demand3.ZeroRanges.{none-earlier, none-dearer}
-use Rattle.demands.specs.Demand3.ScoreMultiplied.{growth, growth-positive, score-grows}
+use Rattle.rules.specs.Method.{Question, best, may_be_taken, latest_finish, B, F, score, preferred, HBCS, Cheapest, HEFT, Name, by_HBCS, by_cheapest, by_HEFT, method}
+use Rattle.laws.specs.Tests.{leb_multiplied}
+use Rattle.laws.specs.Folds.{largest_multiplied, lowest_multiplied}
+use Rattle.laws.specs.Orders.{lower_multiplied, higher_multiplied, among_same}
+use Rattle.laws.specs.First.{first_same}
+use Rattle.demands.specs.Ground.MethodLaws.{multiplied_question, KeepsChoices}
+use Rattle.demands.specs.Ground.Best.{best_below}
+use Rattle.demands.specs.Demand3.ZeroRanges.{none_earlier, none_dearer}
+use Rattle.demands.specs.Demand3.ScoreMultiplied.{growth, growth_positive, score_grows}
 
 module _ (a c : ℕ) (pa : 1 ≤ a) (pc : 1 ≤ c) (q : Question) where
-  best-multiplied : best (multiplied-question a c q) ≡ best q
-  unfolding best multiplied-question
-  best-multiplied =
-      first-same q.processors _ _ (λ i j l m.
-      lower-multiplied a pa _ q.finish _ _ i j refl refl (lower-multiplied c pc _ q.cost tie tie i j refl refl refl))
+  best_multiplied : best (multiplied_question a c q) ≡ best q
+  unfolding best multiplied_question
+  best_multiplied =
+      first_same q.processors _ _ (λ i j l m.
+      lower_multiplied a pa _ q.finish _ _ i j refl refl (lower_multiplied c pc _ q.cost tie tie i j refl refl refl))
 
-  may-be-taken-multiplied : (j : ℕ) → may-be-taken (multiplied-question a c q) j ≡ may-be-taken q j
-  unfolding may-be-taken multiplied-question
-  may-be-taken-multiplied j =
-      ap₂ ◌&&◌ (ap (λ k. leb (c * q.cost j) (c * q.cost k)) best-multiplied ∙ leb-multiplied c pc (q.cost j) (q.cost (best q)))
-      (rw (← mul-add c) (leb-multiplied c pc (q.cost j + q.RCB) q.RB))
+  may_be_taken_multiplied : (j : ℕ) → may_be_taken (multiplied_question a c q) j ≡ may_be_taken q j
+  unfolding may_be_taken multiplied_question
+  may_be_taken_multiplied j =
+      ap₂ ◌&&◌ (ap (λ k. leb (c * q.cost j) (c * q.cost k)) best_multiplied ∙ leb_multiplied c pc (q.cost j) (q.cost (best q)))
+      (rw (← mul-add c) (leb_multiplied c pc (q.cost j + q.RCB) q.RB))
 
-  latest-finish-multiplied : latest-finish (multiplied-question a c q) ≡ a * latest-finish q
-  unfolding latest-finish multiplied-question
-  latest-finish-multiplied = largest-multiplied a q.processors q.finish
+  latest_finish_multiplied : latest_finish (multiplied_question a c q) ≡ a * latest_finish q
+  unfolding latest_finish multiplied_question
+  latest_finish_multiplied = largest_multiplied a q.processors q.finish
 
-  F-multiplied : F (multiplied-question a c q) ≡ a * F q
-  unfolding F multiplied-question
-  F-multiplied = ap₂ ◌-◌ latest-finish-multiplied (lowest-multiplied a q.processors q.finish) ∙ sym (mul-sub a _ _)
+  F_multiplied : F (multiplied_question a c q) ≡ a * F q
+  unfolding F multiplied_question
+  F_multiplied = ap₂ ◌-◌ latest_finish_multiplied (lowest_multiplied a q.processors q.finish) ∙ sym (mul-sub a _ _)
 
-  B-multiplied : B (multiplied-question a c q) ≡ c * B q
-  unfolding B multiplied-question
-  B-multiplied =
-      ap₂ ◌-◌ (largest-multiplied c q.processors q.cost) (lowest-multiplied c q.processors q.cost) ∙ sym (mul-sub c _ _)
+  B_multiplied : B (multiplied_question a c q) ≡ c * B q
+  unfolding B multiplied_question
+  B_multiplied =
+      ap₂ ◌-◌ (largest_multiplied c q.processors q.cost) (lowest_multiplied c q.processors q.cost) ∙ sym (mul-sub c _ _)
 
-  score-multiplied :
+  score_multiplied :
       q.RCB ≤ q.RB → (j : ℕ) → j < q.processors
-      → score (multiplied-question a c q) j ≡ growth a c (F q) (B q) q.RB * score q j
-  unfolding score multiplied-question
-  score-multiplied fits j l =
-      rw (best-multiplied, F-multiplied, latest-finish-multiplied, B-multiplied, ← mul-sub c, ← mul-sub a)
-      (score-grows a c pa pc (F q) (B q) q.RB (q.cost (best q) - q.cost j) q.RCB (latest-finish q - q.finish j) (none-earlier q j l)
-      (none-dearer q (best q) j (best-below q j l) l)
+      → score (multiplied_question a c q) j ≡ growth a c (F q) (B q) q.RB * score q j
+  unfolding score multiplied_question
+  score_multiplied fits j l =
+      rw (best_multiplied, F_multiplied, latest_finish_multiplied, B_multiplied, ← mul-sub c, ← mul-sub a)
+      (score_grows a c pa pc (F q) (B q) q.RB (q.cost (best q) - q.cost j) q.RCB (latest_finish q - q.finish j) (none_earlier q j l)
+      (none_dearer q (best q) j (best_below q j l) l)
       (λ h. omega arith))
 
   module _ (i j : ℕ) where
-    preferred-within : q.RCB ≤ q.RB → i < q.processors → j < q.processors → preferred (multiplied-question a c q) i j ≡ preferred q i j
-    unfolding preferred multiplied-question
-    preferred-within fits k l =
-        among_same _ (may-be-taken q) _ _ i j (may-be-taken-multiplied i) (may-be-taken-multiplied j)
-        (higher-multiplied (growth a c (F q) (B q) q.RB) (growth-positive a c pa pc (F q) (B q) q.RB) _ (score q) _ _ i j (score-multiplied fits i k)
-        (score-multiplied fits j l)
-        (lower-multiplied a pa _ q.finish tie tie i j refl refl refl))
+    preferred_within : q.RCB ≤ q.RB → i < q.processors → j < q.processors → preferred (multiplied_question a c q) i j ≡ preferred q i j
+    unfolding preferred multiplied_question
+    preferred_within fits k l =
+        among_same _ (may_be_taken q) _ _ i j (may_be_taken_multiplied i) (may_be_taken_multiplied j)
+        (higher_multiplied (growth a c (F q) (B q) q.RB) (growth_positive a c pa pc (F q) (B q) q.RB) _ (score q) _ _ i j (score_multiplied fits i k)
+        (score_multiplied fits j l)
+        (lower_multiplied a pa _ q.finish tie tie i j refl refl refl))
 
-    none-may-be-taken : q.RB < q.RCB → may-be-taken q i ≡ false
-    unfolding may-be-taken
-    none-may-be-taken over =
+    none_may_be_taken : q.RB < q.RCB → may_be_taken q i ≡ false
+    unfolding may_be_taken
+    none_may_be_taken over =
         rw (lt-leb (q.cost i + q.RCB) q.RB (omega arith)) (and-false (leb (q.cost i) (q.cost (best q))))
 
-    preferred-past : q.RB < q.RCB → preferred (multiplied-question a c q) i j ≡ preferred q i j
+    preferred_past : q.RB < q.RCB → preferred (multiplied_question a c q) i j ≡ preferred q i j
     unfolding preferred among
-    preferred-past over = rw (may-be-taken-multiplied i, none-may-be-taken over)
+    preferred_past over = rw (may_be_taken_multiplied i, none_may_be_taken over)
 
-    preferred-multiplied : i < q.processors → j < q.processors → preferred (multiplied-question a c q) i j ≡ preferred q i j
-    preferred-multiplied k l = go (dec_le q.RCB q.RB)
+    preferred_multiplied : i < q.processors → j < q.processors → preferred (multiplied_question a c q) i j ≡ preferred q i j
+    preferred_multiplied k l = go (dec_le q.RCB q.RB)
       where
-        go : Dec (q.RCB ≤ q.RB) → preferred (multiplied-question a c q) i j ≡ preferred q i j
-        go (yes fits) = preferred-within fits k l
-        go (no over) = preferred-past (omega arith)
+        go : Dec (q.RCB ≤ q.RB) → preferred (multiplied_question a c q) i j ≡ preferred q i j
+        go (yes fits) = preferred_within fits k l
+        go (no over) = preferred_past (omega arith)
 
-  HBCS-multiplied : HBCS (multiplied-question a c q) ≡ HBCS q
-  unfolding HBCS multiplied-question
-  HBCS-multiplied =
-      first-same q.processors (preferred (multiplied-question a c q)) (preferred q) preferred-multiplied
+  HBCS_multiplied : HBCS (multiplied_question a c q) ≡ HBCS q
+  unfolding HBCS multiplied_question
+  HBCS_multiplied =
+      first_same q.processors (preferred (multiplied_question a c q)) (preferred q) preferred_multiplied
 
-  cheapest-multiplied : Cheapest (multiplied-question a c q) ≡ Cheapest q
-  unfolding Cheapest multiplied-question
-  cheapest-multiplied =
-      first-same q.processors _ _ (λ i j l m.
-      lower-multiplied c pc _ q.cost _ _ i j refl refl (lower-multiplied a pa _ q.finish tie tie i j refl refl refl))
+  cheapest_multiplied : Cheapest (multiplied_question a c q) ≡ Cheapest q
+  unfolding Cheapest multiplied_question
+  cheapest_multiplied =
+      first_same q.processors _ _ (λ i j l m.
+      lower_multiplied c pc _ q.cost _ _ i j refl refl (lower_multiplied a pa _ q.finish tie tie i j refl refl refl))
 
-pub HBCS-keeps-choices : KeepsChoices HBCS
-HBCS-keeps-choices = HBCS-multiplied
+pub HBCS_keeps_choices : KeepsChoices HBCS
+HBCS_keeps_choices = HBCS_multiplied
 
-pub HEFT-keeps-choices : KeepsChoices HEFT
+pub HEFT_keeps_choices : KeepsChoices HEFT
 unfolding HEFT
-HEFT-keeps-choices = best-multiplied
+HEFT_keeps_choices = best_multiplied
 
-pub method-keeps-choices : (M : Name) → KeepsChoices (method M)
+pub method_keeps_choices : (M : Name) → KeepsChoices (method M)
 unfolding method
-method-keeps-choices by-HBCS = HBCS-keeps-choices
-method-keeps-choices by-cheapest = cheapest-multiplied
-method-keeps-choices by-HEFT = HEFT-keeps-choices
+method_keeps_choices by_HBCS = HBCS_keeps_choices
+method_keeps_choices by_cheapest = cheapest_multiplied
+method_keeps_choices by_HEFT = HEFT_keeps_choices

@@ -7,19 +7,19 @@ use Rattle.std.proofs.Math.Bool.{cond}
 use Rattle.std.proofs.Math.Nat.{mul-add, mul-sub}
 use Rattle.rules.specs.Folds.{sum, largest}
 use Rattle.rules.specs.Workflow.{Workflow}
-use Rattle.rules.specs.Ranks.{lowest-cost, next-task}
+use Rattle.rules.specs.Ranks.{lowest_cost, next_task}
 use Rattle.rules.specs.Start.{arrival, arrived, ready}
-use Rattle.rules.specs.Rows.{Placed, row_of, is-placed, busy, spent}
+use Rattle.rules.specs.Rows.{Placed, row_of, is_placed, busy, spent}
 use Rattle.rules.specs.Method.{Method}
-use Rattle.rules.specs.Placing.{ready_for, start_of, finish-of, RB, RCB, question, row_on, place-task, place-next, place}
-use Rattle.rules.specs.Multiplied.{multiplied, multiplied-row}
-use Rattle.laws.specs.Numbers.{max-multiplied, or-zero-multiplied, zero-or-multiplied}
-use Rattle.laws.specs.Folds.{sum-multiplied, largest-multiplied}
-use Rattle.laws.specs.StartLaws.{start-on-multiplied}
-use Rattle.demands.specs.Ground.MethodLaws.{multiplied-question, KeepsChoices}
-use Rattle.demands.specs.Demand3.CostsMultiplied.{cost-multiplied, lowest-cost-multiplied, next-task-multiplied}
-use Rattle.demands.specs.Demand3.RowsMultiplied.{multiplied-placed, is-placed-multiplied, row-of-multiplied, spent-multiplied}
-use Rattle.demands.specs.Demand3.RowsMultiplied.{busy-multiplied}
+use Rattle.rules.specs.Placing.{ready_for, start_of, finish_of, RB, RCB, question, row_on, place_task, place_next, place}
+use Rattle.rules.specs.Multiplied.{multiplied, multiplied_row}
+use Rattle.laws.specs.Numbers.{max_multiplied, or_zero_multiplied, zero_or_multiplied}
+use Rattle.laws.specs.Folds.{sum_multiplied, largest_multiplied}
+use Rattle.laws.specs.StartLaws.{start_on_multiplied}
+use Rattle.demands.specs.Ground.MethodLaws.{multiplied_question, KeepsChoices}
+use Rattle.demands.specs.Demand3.CostsMultiplied.{cost_multiplied, lowest_cost_multiplied, next_task_multiplied}
+use Rattle.demands.specs.Demand3.RowsMultiplied.{multiplied_placed, is_placed_multiplied, row_of_multiplied, spent_multiplied}
+use Rattle.demands.specs.Demand3.RowsMultiplied.{busy_multiplied}
 
 module _ (a b : ℕ) (pa : 1 ≤ a) (W : Workflow) where
   abbrev W' : Workflow
@@ -27,82 +27,82 @@ module _ (a b : ℕ) (pa : 1 ≤ a) (W : Workflow) where
 
   module _ (rows : List Placed) where
     abbrev rows' : List Placed
-    rows' = map (multiplied-placed a b) rows
+    rows' = map (multiplied_placed a b) rows
 
-    arrived-multiplied :
+    arrived_multiplied :
         (i j : ℕ)
         → arrived W' (λ p. (row_of rows' p).processor) (λ p. (row_of rows' p).finish) i j
         ≡ a * arrived W (λ p. (row_of rows p).processor) (λ p. (row_of rows p).finish) i j
-    unfolding arrived arrival multiplied multiplied-row
-    arrived-multiplied i j =
+    unfolding arrived arrival multiplied multiplied_row
+    arrived_multiplied i j =
         ap (largest W.edges) (fun_ext (λ e.
         let r = row_of rows (W.from e) in
-        rw (row-of-multiplied a b rows (W.from e), zero-or-multiplied a (eqb r.processor j) (W.transfer e), ← mul-add a)
-        (or-zero-multiplied a (eqb (W.to e) i) (r.finish + cond (eqb r.processor j) 0 (W.transfer e)))))
-        ∙ largest-multiplied a W.edges _
+        rw (row_of_multiplied a b rows (W.from e), zero_or_multiplied a (eqb r.processor j) (W.transfer e), ← mul-add a)
+        (or_zero_multiplied a (eqb (W.to e) i) (r.finish + cond (eqb r.processor j) 0 (W.transfer e)))))
+        ∙ largest_multiplied a W.edges _
 
-    ready-for-multiplied : (i j : ℕ) → ready_for W' rows' i j ≡ a * ready_for W rows i j
+    ready_for_multiplied : (i j : ℕ) → ready_for W' rows' i j ≡ a * ready_for W rows i j
     unfolding ready_for ready multiplied
-    ready-for-multiplied i j =
-        rw (arrived-multiplied i j) (max-multiplied a W.clock (arrived W (λ p. (row_of rows p).processor) (λ p. (row_of rows p).finish) i j))
+    ready_for_multiplied i j =
+        rw (arrived_multiplied i j) (max_multiplied a W.clock (arrived W (λ p. (row_of rows p).processor) (λ p. (row_of rows p).finish) i j))
 
-    pub start-of-multiplied : (i j : ℕ) → start_of W' rows' i j ≡ a * start_of W rows i j
+    pub start_of_multiplied : (i j : ℕ) → start_of W' rows' i j ≡ a * start_of W rows i j
     unfolding start_of multiplied
-    start-of-multiplied i j =
-        rw (busy-multiplied a b W rows j, ready-for-multiplied i j)
-        (start-on-multiplied (busy W rows j) (ready_for W rows i j) (W.minutes i j) a pa)
+    start_of_multiplied i j =
+        rw (busy_multiplied a b W rows j, ready_for_multiplied i j)
+        (start_on_multiplied (busy W rows j) (ready_for W rows i j) (W.minutes i j) a pa)
 
-    pub finish-of-multiplied : (i j : ℕ) → finish-of W' rows' i j ≡ a * finish-of W rows i j
-    unfolding finish-of multiplied
-    finish-of-multiplied i j = rw (start-of-multiplied i j) (sym (mul-add a (start_of W rows i j) (W.minutes i j)))
+    pub finish_of_multiplied : (i j : ℕ) → finish_of W' rows' i j ≡ a * finish_of W rows i j
+    unfolding finish_of multiplied
+    finish_of_multiplied i j = rw (start_of_multiplied i j) (sym (mul-add a (start_of W rows i j) (W.minutes i j)))
 
-    pub RB-multiplied : RB W' rows' ≡ a * b * RB W rows
+    pub RB_multiplied : RB W' rows' ≡ a * b * RB W rows
     unfolding RB multiplied
-    RB-multiplied = rw (spent-multiplied a b rows) (sym (mul-sub (a * b) W.budget (spent rows)))
+    RB_multiplied = rw (spent_multiplied a b rows) (sym (mul-sub (a * b) W.budget (spent rows)))
 
-    pub RCB-multiplied : (i : ℕ) → RCB W' rows' i ≡ a * b * RCB W rows i
+    pub RCB_multiplied : (i : ℕ) → RCB W' rows' i ≡ a * b * RCB W rows i
     unfolding RCB multiplied
-    RCB-multiplied i =
+    RCB_multiplied i =
         ap (sum W.tasks) (fun_ext (λ k.
-        rw (is-placed-multiplied a b rows k, lowest-cost-multiplied a b W k)
-        (zero-or-multiplied (a * b) (eqb i k || is-placed rows k) (lowest-cost W k))))
-        ∙ sum-multiplied (a * b) W.tasks _
+        rw (is_placed_multiplied a b rows k, lowest_cost_multiplied a b W k)
+        (zero_or_multiplied (a * b) (eqb i k || is_placed rows k) (lowest_cost W k))))
+        ∙ sum_multiplied (a * b) W.tasks _
 
-    question-multiplied : (i : ℕ) → question W' rows' i ≡ multiplied-question a (a * b) (question W rows i)
-    unfolding question multiplied-question multiplied
-    question-multiplied i =
+    question_multiplied : (i : ℕ) → question W' rows' i ≡ multiplied_question a (a * b) (question W rows i)
+    unfolding question multiplied_question multiplied
+    question_multiplied i =
         λ t. record {
           processors = W.processors;
-          cost = λ j. cost-multiplied a b W i j t;
-          finish = λ j. finish-of-multiplied i j t;
-          RB = RB-multiplied t;
-          RCB = RCB-multiplied i t;
+          cost = λ j. cost_multiplied a b W i j t;
+          finish = λ j. finish_of_multiplied i j t;
+          RB = RB_multiplied t;
+          RCB = RCB_multiplied i t;
         }
 
-    row-on-multiplied : (i j : ℕ) → row_on W' rows' i j ≡ multiplied-row a b (row_on W rows i j)
-    unfolding row_on multiplied-row
-    row-on-multiplied i j =
+    row_on_multiplied : (i j : ℕ) → row_on W' rows' i j ≡ multiplied_row a b (row_on W rows i j)
+    unfolding row_on multiplied_row
+    row_on_multiplied i j =
         λ t. record {
           processor = j;
-          start = start-of-multiplied i j t;
-          finish = finish-of-multiplied i j t;
-          cost = cost-multiplied a b W i j t;
+          start = start_of_multiplied i j t;
+          finish = finish_of_multiplied i j t;
+          cost = cost_multiplied a b W i j t;
         }
 
   module _ (pb : 1 ≤ b) (M : Method) (keeps : KeepsChoices M) where
-    place-task-multiplied : (rows : List Placed) (i : ℕ) → place-task M W' (rows' rows) i ≡ rows' (place-task M W rows i)
-    unfolding place-task multiplied-placed
-    place-task-multiplied rows i =
-        rw (question-multiplied rows i, keeps a (a * b) pa (mul-pos pa pb) (question W rows i), row-on-multiplied rows i (M (question W rows i)))
+    place_task_multiplied : (rows : List Placed) (i : ℕ) → place_task M W' (rows' rows) i ≡ rows' (place_task M W rows i)
+    unfolding place_task multiplied_placed
+    place_task_multiplied rows i =
+        rw (question_multiplied rows i, keeps a (a * b) pa (mul-pos pa pb) (question W rows i), row_on_multiplied rows i (M (question W rows i)))
 
-    place-next-multiplied : (rows : List Placed) → place-next M W' (rows' rows) ≡ rows' (place-next M W rows)
-    unfolding place-next
-    place-next-multiplied rows =
-        ap (place-task M W' (rows' rows))
-        (ap (next-task W') (fun_ext (is-placed-multiplied a b rows)) ∙ next-task-multiplied a b W pa (is-placed rows))
-        ∙ place-task-multiplied rows (next-task W (is-placed rows))
+    place_next_multiplied : (rows : List Placed) → place_next M W' (rows' rows) ≡ rows' (place_next M W rows)
+    unfolding place_next
+    place_next_multiplied rows =
+        ap (place_task M W' (rows' rows))
+        (ap (next_task W') (fun_ext (is_placed_multiplied a b rows)) ∙ next_task_multiplied a b W pa (is_placed rows))
+        ∙ place_task_multiplied rows (next_task W (is_placed rows))
 
-    pub place-multiplied : (k : ℕ) → place M W' k ≡ rows' (place M W k)
+    pub place_multiplied : (k : ℕ) → place M W' k ≡ rows' (place M W k)
     unfolding place
-    place-multiplied zero = refl
-    place-multiplied (suc k) = rw (place-multiplied k) (place-next-multiplied (place M W k))
+    place_multiplied zero = refl
+    place_multiplied (suc k) = rw (place_multiplied k) (place_next_multiplied (place M W k))

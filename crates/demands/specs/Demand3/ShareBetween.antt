@@ -2,44 +2,44 @@
 -- prices by 2 it is held to 147, which is 6 times 24.5. So 3 are left, where nothing was.
 use Rattle.std.specs.Prelude.{ℕ, ◌≤◌, ◌≡◌, refl, List, [], length}
 use Rattle.std.proofs.Common.{sym, ap, ◌∙◌, arith}
-use Rattle.rules.specs.Reading.{no-deadline, thousandths, Request}
+use Rattle.rules.specs.Reading.{no_deadline, thousandths, Request}
 use Rattle.rules.specs.Rows.{Row}
-use Rattle.rules.specs.Method.{by-HBCS}
+use Rattle.rules.specs.Method.{by_HBCS}
 use Rattle.rules.specs.Answer.{planned, answer}
-use Rattle.rules.specs.Multiplied.{multiplied-deadline, multiplied-interval, multiplied-answer}
-use Rattle.rules.specs.Cases.{K-record, four-rows, given}
+use Rattle.rules.specs.Multiplied.{multiplied_deadline, multiplied_interval, multiplied_answer}
+use Rattle.rules.specs.Cases.{K_record, four_rows, given}
 use Rattle.rules.specs.Starred.{sample}
 use Rattle.demands.specs.Demand3.{SamePlan}
-use Rattle.demands.specs.Demand3.SampleMultiplied.{below_two, three-by-two, BothGood}
+use Rattle.demands.specs.Demand3.SampleMultiplied.{below_two, three_by_two, BothGood}
 
 -- The sample with this `K`, times by a and prices by b; and what reading makes of it.
 pub shared : (a b k : ℕ) → List ℕ
-shared a b k = sample a b 0 "prep    " (K-record k) []
+shared a b k = sample a b 0 "prep    " (K_record k) []
 
-read-shared : ℕ → Request
-read-shared k =
+read_shared : ℕ → Request
+read_shared k =
     record {
       tasks = 3;
       processors = 2;
       budget = 0;
-      deadline = no-deadline;
+      deadline = no_deadline;
       share = thousandths k;
-      prices-at = 10;
-      windows-at = 16;
+      prices_at = 10;
+      windows_at = 16;
       windows = 0;
-      tasks-at = 16;
+      tasks_at = 16;
       edges_at = 76;
       edges = 2;
     }
 
-pub shared-both-good : BothGood 3 2 (shared 1 1 100) (shared 3 2 100)
-unfolding given sample shared read-shared multiplied-deadline multiplied-interval
-shared-both-good =
+pub shared_both_good : BothGood 3 2 (shared 1 1 100) (shared 3 2 100)
+unfolding given sample shared read_shared multiplied_deadline multiplied_interval
+shared_both_good =
     record {
       end = 87;
       end' = 87;
-      r = read-shared 100;
-      r' = read-shared 100;
+      r = read_shared 100;
+      r' = read_shared 100;
       good = refl;
       good' = refl;
       multiplied = record {
@@ -50,26 +50,26 @@ shared-both-good =
         price = below_two _ refl refl;
         minimum = below_two _ refl refl;
         windows = below_two _ refl refl;
-        minutes = three-by-two _ refl refl refl refl refl refl;
+        minutes = three_by_two _ refl refl refl refl refl refl;
         edges = refl;
         from = below_two _ refl refl;
         to = below_two _ refl refl;
         transfer = below_two _ refl refl;
       };
-      same-share = refl;
+      same_share = refl;
     }
 
-pub plans-with-a-share : (answer (shared 1 1 100) 4 ≡ planned 3 18 24 0) × (answer (shared 3 2 100) 4 ≡ planned 3 54 144 3)
+pub plans_with_a_share : (answer (shared 1 1 100) 4 ≡ planned 3 18 24 0) × (answer (shared 3 2 100) 4 ≡ planned 3 54 144 3)
 unfolding given sample shared
-plans-with-a-share = (refl, refl)
+plans_with_a_share = (refl, refl)
 
-pub share-between-breaks-demand-3 :
+pub share_between_breaks_demand_3 :
     ((a b : ℕ) → 1 ≤ a → 1 ≤ b → (s t : List ℕ) → BothGood a b s t → (lent lent' : List Row) → length lent' ≡ length lent
-    → SamePlan by-HBCS a b s t lent lent')
+    → SamePlan by_HBCS a b s t lent lent')
     → ⊥
-unfolding multiplied-answer
-share-between-breaks-demand-3 same =
-    let kept = (same 3 2 (omega arith) (omega arith) (shared 1 1 100) (shared 3 2 100) shared-both-good four-rows four-rows refl).answers in
-    let both : planned 3 54 144 3 ≡ planned 3 54 144 0 = sym plans-with-a-share.1 ∙ kept ∙ ap (multiplied-answer 3 2) plans-with-a-share.0 in
+unfolding multiplied_answer
+share_between_breaks_demand_3 same =
+    let kept = (same 3 2 (omega arith) (omega arith) (shared 1 1 100) (shared 3 2 100) shared_both_good four_rows four_rows refl).answers in
+    let both : planned 3 54 144 3 ≡ planned 3 54 144 0 = sym plans_with_a_share.1 ∙ kept ∙ ap (multiplied_answer 3 2) plans_with_a_share.0 in
     let z : ◌≡◌ {A = ℕ} 3 0 = cc in
     omega (arith, z)

@@ -8,8 +8,8 @@ abbrev pub ChoosesProcessors : Method → Type 0
 ChoosesProcessors M = (q : Question) → 1 ≤ q.processors → M q < q.processors
 
 -- A question with finishes a times and money c times another's.
-unfoldable pub multiplied-question : ℕ → ℕ → Question → Question
-multiplied-question a c q =
+unfoldable pub multiplied_question : ℕ → ℕ → Question → Question
+multiplied_question a c q =
     record {
       processors = q.processors;
       cost = λ j. c * q.cost j;
@@ -20,7 +20,7 @@ multiplied-question a c q =
 
 -- A multiplied question has the same choice.
 abbrev pub KeepsChoices : Method → Type 0
-KeepsChoices M = (a c : ℕ) → 1 ≤ a → 1 ≤ c → (q : Question) → M (multiplied-question a c q) ≡ M q
+KeepsChoices M = (a c : ℕ) → 1 ≤ a → 1 ≤ c → (q : Question) → M (multiplied_question a c q) ≡ M q
 
 -- What processor j costs leaves enough for the tasks still to come.
 abbrev pub LeavesEnough : Question → ℕ → Type 0

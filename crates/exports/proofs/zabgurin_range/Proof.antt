@@ -12,7 +12,7 @@ costs-told-requires : tie.Need-costs-told-requires
 costs-told-requires c κs = search rules
 
 returns : tie.Need-returns
-returns c = c.costs-told.ensures ∙ ap told_costs c.before.range.ensures
+returns c = c.costs_told.ensures ∙ ap told_costs c.before.range.ensures
 
 pub zabgurin_range_spec : {M : Type 1} → statement M
 zabgurin_range_spec = tie.close (tie.spec range-requires costs-told-requires returns)

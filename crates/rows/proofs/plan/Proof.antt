@@ -239,7 +239,7 @@ module _ {M : Type 1} {𝓤 : Ura M} (𝓛 : Logic 𝓤) (mem : Memory → SProp
           use0 𝓛 (raw ((Due 𝓛 mem run).pre (to_due p v is-p))) (asks_planning p v is-p) $
           calls_met ! due.ended (due.clauses 𝓛 mem run) fm met.due_met (to_due p v is-p) (λ n ws. n ≡ rows_told p.answer) (λ n ws. refl)
           (and_then ! (of_local ! 21 refl) (no_more !))
-          (λ w n ws is-due is-n. drop ! $ drop ! $ drop ! $
+          (λ w n ws is_due is-n. drop ! $ drop ! $ drop ! $
           sets_returned ! 20 refl ((uint_Lawful 𝓛 w64).typed n _ is-n).0 $
           -- the rows are lent on
           sets ! 20 (addr ! (from ! (fld ! refl (hop ! (look_in ! 14 (sub ! 0 refl (whole !))) (stop !))))) refl (tt, tt) $
@@ -247,7 +247,7 @@ module _ {M : Type 1} {𝓤 : Ura M} (𝓛 : Logic 𝓤) (mem : Memory → SProp
           (tt, (tt, (record { fits = m-fits }, tt))) $
           move ! (22 ∷ 23 ∷ []) $
           use2 𝓛 (raw ((Store 𝓛 mem run).pre (to_store p v is-p n w is-n)))
-          (asks_store p v is-p n w is-n (due_in_reach (meant_method asked) c.now m planned is-due)) $
+          (asks_store p v is-p n w is-n (due_in_reach (meant_method asked) c.now m planned is_due)) $
           calls_met ! store.ended (store.clauses 𝓛 mem run) fm met.store_met (to_store p v is-p n w is-n)
           (λ r zs. zs.0 ≡ overwritten n (row_at p) ys) (λ r zs. refl)
           (and_then ! (of_local ! 21 refl) (and_then ! (of_local ! 21 refl) (and_then ! (of_local ! 21 refl) (no_more !))))
@@ -263,7 +263,7 @@ module _ {M : Type 1} {𝓤 : Ura M} (𝓛 : Logic 𝓤) (mem : Memory → SProp
           sets_returned ! 23 refl ((enum.lawful answer.the_type answer-laws.the_laws 𝓛 tt).typed r _ is-r).0 $
           returns ! (look ! 23 refl) $ behind ! 5 $
           frees_all ! (holds _ ∷ holds _ ∷ holds _ ∷ holds _ ∷ holds _ ∷ holds _ ∷ holds _ ∷ holds _ ∷ holds _ ∷ holds _ ∷ []) $
-          move ! (0 ∷ 3 ∷ 1 ∷ 4 ∷ 2 ∷ []) $ by ! (exits r u zs.0 same (rows_planned (meant_method asked) c.now planned is-due stored is-told)))))))
+          move ! (0 ∷ 3 ∷ 1 ∷ 4 ∷ 2 ∷ []) $ by ! (exits r u zs.0 same (rows_planned (meant_method asked) c.now planned is_due stored is-told)))))))
 
     -- The parameters are passed, and the body runs.
     walk_function : ent 𝓤 (on_entry 𝓛 this.signature (κ₀, (κ₁, tt)) (q₀, (q₁, tt)) a vals) (WpFn 𝓤 H C Λ function (cv ∷ av ∷ xv ∷ []) Post)

@@ -14,7 +14,7 @@ use Rattle.planner.specs.declared.Planning.{Planning}
 use Rattle.planner.specs.Planned.{meant_answer, planned_in, workflow_by}
 use Rattle.bounds.specs.AnswerBounds.{in_force_is_in_range}
 use Rattle.reasons.specs.Meant.{meant_why}
-use Rattle.demands.specs.Demand2.WhyNot.{why-of-refused}
+use Rattle.demands.specs.Demand2.WhyNot.{why_of_refused}
 use Rattle.sooner.specs.WhyOf.{RowsOf, plan_told}
 use borrow.Author.Rules.{rules}
 use native.Mathlib.Omega.{arith}
@@ -52,7 +52,7 @@ returns : tie.Need-returns
 unfolding meant_why meant_answer meant_method
 returns c =
     let planned = c.before.before.before in
-    sym (why-of-refused _ (sym (rw c.before.answer.given.1 at planned.plan-good.ensures.answer_is)) _ _)
+    sym (why_of_refused _ (sym (rw c.before.answer.given.1 at planned.plan-good.ensures.answer_is)) _ _)
 
 enum_told : tie.Need-enum-told
 enum_told c = search rules
