@@ -13,6 +13,70 @@ N = lambda s: s.replace("_", "-")
 SIG = re.compile(r"^(?:pub )?(?:abbrev )?(?:pub )?(\S+) : tie\.(Need-\S+|invariant-\S+|decreases-\S+)")
 
 
+def functions():
+    """Of each function of src: the names of its requires, and its parameters that are lent to be changed."""
+    out = {}
+    for folder, _, files in os.walk("crates"):
+        if not folder.endswith("/src") or "/out" in folder:
+            continue
+        crate = folder.split("/")[1]
+        for f in files:
+            text = re.sub(r"//[^\n]*", "", open(f"{folder}/{f}").read())
+            for m in re.finditer(r"\bfn (\w+)(?:<[^>]*>)?\(", text):
+                depth, i = 1, m.end()
+                while depth:
+                    depth += {"(": 1, ")": -1}.get(text[i], 0)
+                    i += 1
+                params = text[m.end() : i - 1]
+                rest = text[i:]
+                rest = rest[: re.search(r"\n\s*\{\n|\n}\n|$", rest).start()]
+                muts = [q.group(1) for q in re.finditer(r"(\w+): &(?:'\w+ )?mut ", params)]
+                req = re.findall(r"\brequires (\w+) \{", rest)
+                out[(crate, m.group(1))] = (req if len(req) > 1 else [], muts)
+    return out
+
+
+FUNCTIONS = functions()
+
+
+def top_commas(text):
+    parts, depth, cur = [], 0, ""
+    for ch in text:
+        if ch in "([{":
+            depth += 1
+        if ch in ")]}":
+            depth -= 1
+        if ch == "," and not depth:
+            parts.append(cur)
+            cur = ""
+        else:
+            cur += ch
+    return parts + [cur]
+
+
+def as_record(body, names):
+    """A tuple at the end of an answer, one part for each clause, as a record by the clauses' names."""
+    body = body.rstrip()
+    if not body.endswith(")"):
+        return None
+    depth, i = 0, len(body) - 1
+    while i >= 0:
+        depth += {")": 1, "(": -1}.get(body[i], 0)
+        if not depth:
+            break
+        i -= 1
+    if not re.search(r"(=|\bin)\s*$", body[:i]):
+        return None
+    parts = [p.strip() for p in top_commas(body[i + 1 : -1])]
+    if parts and not parts[-1]:
+        parts.pop()
+    while 1 < len(parts) < len(names) and parts[-1].startswith("(") and parts[-1].endswith(")") and len(top_commas(parts[-1][1:-1])) > 1:
+        parts[-1:] = [p.strip() for p in top_commas(parts[-1][1:-1]) if p.strip()]
+    if len(parts) != len(names):
+        return None
+    return body[:i] + "record { " + "; ".join(f"{n} = {p}" for n, p in zip(names, parts)) + " }"
+
+
 def blocks_of(text):
     lines = text.split("\n")
     blocks, cur = [], []
@@ -47,26 +111,124 @@ def tokens(text):
     return set(re.findall(r"[^\s(){}\[\],;.«»:]+", text))
 
 
-def path_turner(places, said):
-    table = {}
+def path_turner(crate, fn, info, said):
+    places = info["places"]
+    table, callee = {}, {}
     for p in places:
         old, new = p[2]
         if old:
             table.setdefault(N(old), new)
+            callee.setdefault(N(old), p[3])
+    own = FUNCTIONS.get((crate, fn), ([], []))
+    index = {N(p[0]): i for i, p in enumerate(places)}
+    byname = info["places_by_name"]
+
+    def place_of(old):
+        """The kit's new name of a place, from the old one of its type."""
+        i = index.get(N(old))
+        return byname[i] if i is not None else None
+
+    def up(frm, to):
+        """How many steps back from one place to another."""
+        k, i = 0, byname.index(frm)
+        while i is not None and byname[i] != to:
+            i = index.get(N(places[i][1])) if places[i][1] else None
+            k += 1
+        return k if i is not None else None
+
+    arms = {}
+    for a in info["arms"]:
+        if a:
+            for field, step, fields in a[2]:
+                if fields:
+                    arms.setdefault((N(step), tuple(fields)), (a[0], field))
+
+    def clause(parts):
+        """The clause of this function's requires that a path of numbers leads to, by its name."""
+        names = own[0]
+        if not names or not parts or not parts[0].isdigit():
+            return parts
+        i = 0
+        while i < len(names) - 1 and parts and parts[0] == "1":
+            parts = parts[1:]
+            i += 1
+        if i < len(names) - 1:
+            if not parts or parts[0] != "0":
+                said.append("clause " + ".".join(parts))
+                return parts
+            parts = parts[1:]
+        return [names[i]] + parts
 
     def turn(m):
-        parts = m.group(1).split(".")[1:]
+        name = m.group(1)
+        parts = m.group(2).split(".")[1:]
         while parts and parts[0] == "before":
             parts.pop(0)
         if parts:
             k = N(parts[0])
-            if k in table:
+            arm = next((v for (s, f), v in arms.items() if s == k and tuple(parts[1 : 1 + len(f)]) == f), None)
+            if arm:
+                parts = list(arm) + parts[3:]
+            elif k in table:
                 parts[0] = table[k]
-            elif parts[0] not in ("args", "requires", "ranges", "ensures"):
+                if len(parts) > 2 and parts[1] == "new" and parts[2].isdigit() and callee.get(k) and "::" in callee[k]:
+                    of = FUNCTIONS.get(tuple(callee[k].split("::")[-2:])) or FUNCTIONS.get((callee[k].split("::")[0], callee[k].split("::")[-1]))
+                    if of and int(parts[2]) < len(of[1]):
+                        parts[2] = of[1][int(parts[2])]
+                    else:
+                        said.append("new " + m.group(0))
+            elif parts[0] == "requires":
+                parts[1:] = clause(parts[1:])
+            elif parts[0] not in ("args", "ranges", "ensures", "lifetimes"):
                 said.append("path " + parts[0])
-        return "c." + ".".join(parts) if parts else "c"
+            if len(parts) > 1 and (parts[0] in ("args", "ranges") or parts[0].startswith("loop")):
+                parts[1] = parts[1].replace("-", "_") if parts[1] not in ("type-inv",) else parts[1]
+        return name + "." + ".".join(parts) if parts else name
 
-    return lambda t: re.sub(r"(?<![\w.'′-])c((?:\.[^\s(){}\[\],;.«»]+)+)", turn, t)
+    def whole(t, frm, takers):
+        aliases = {"c"}
+        for q in re.finditer(r"\((\S+) : tie\.", t):
+            aliases.add(q.group(1))
+        more = True
+        while more:
+            more = False
+            for q in re.finditer(r"\blet (\S+) = (\S+?)((?:\.before)*) in\b", t):
+                if q.group(2) in aliases and q.group(1) not in aliases:
+                    aliases.add(q.group(1))
+                    more = True
+        for q in re.finditer(r"\blet (\S+) = (\S+)\.requires in\b", t):
+            if q.group(2).split(".")[0] in aliases and own[0]:
+                t = re.sub(r"(?<![\w.'′-])" + re.escape(q.group(1)) + r"((?:\.\d)+)", lambda w: q.group(1) + "." + ".".join(clause(w.group(1).split(".")[1:])), t)
+        # What takes a place is handed the place that it wants.
+        for name, (to, _) in takers.items():
+
+            def hand(w):
+                if w.group(2) not in aliases:
+                    return w.group(0)
+                k = up(frm, to) if frm and to else None
+                if k is None:
+                    said.append(f"cannot hand {name} its place {to} from {frm}")
+                    return w.group(0)
+                return w.group(1) + "@@" + "c" + ".@before" * k
+
+            t = re.sub(r"((?<![\w.'′-])" + re.escape(name) + r" )([\w'′-]+)((?:\.before)*)(?![\w.'′-])", hand, t)
+        for a in aliases:
+            t = re.sub(r"(?<![\w.'′@-])(" + re.escape(a) + r")((?:\.[^\s(){}\[\],;.«»]+)+)", turn, t)
+        for q in set(re.findall(r"\blet (\S+) = c\.args in\b", t)):
+            t = re.sub(r"(?<![\w.'′-])" + re.escape(q) + r"\.([^\s(){}\[\],;.«»]+)", lambda w: q + "." + w.group(1).replace("-", "_"), t)
+        t = t.replace("@@", "").replace(".@before", ".before")
+        known = {a[1] for a in info["asked_at"]}
+
+        def typed(w):
+            at = place_of(w.group(1))
+            if at is None:
+                said.append("place " + w.group(1))
+                return "goal." + w.group(1)
+            return ("goal." if at in known else "lts.") + at
+
+        return re.sub(r"tie\.([^\s()]+)((?: (?:invariant|decreases)-[^\s()]+)*)", typed, t)
+
+    return whole, place_of
 
 
 def public(block):
@@ -85,6 +247,72 @@ def public(block):
     return "\n".join(out)
 
 
+def flat(text):
+    """Names that are bound to an earlier place are the place itself, since the newer form has all of its facts in one record."""
+    while True:
+        m = re.search(r"\blet (\S+) = c((?:\.before)*) in\b[ ]*\n?", text)
+        if not m:
+            return text
+        text = text[: m.start()] + re.sub(r"^\s*", "", text[m.end() :]) if text[: m.start()].endswith(" ") else text[: m.start()] + text[m.end() :]
+        text = re.sub(r"(?<![\w.'′-])" + re.escape(m.group(1)) + r"(?=[\s.,;()]|$)(?! =)", "c", text)
+
+
+def inline_of(block):
+    """A helper whose first argument is a place: its name, kind, type, what it unfolds and its body, of `c`; else None."""
+    lines = [l for l in block.split("\n") if not l.startswith("--")]
+    text = "\n".join(lines)
+    m = re.match(r"(abbrev )?(?:pub )?(\S+) :\s+(?:\((\S+) : tie\.[^()]*\)|tie\.[^()→]*?)(?:\s+→\s+|\s+(?=\{))", text)
+    if not m or re.search(r"(?m)^\s*where\b", text) or text.startswith(("module", "record", "data")):
+        return None
+    name = m.group(2)
+    eqs = list(re.finditer(r"(?m)^" + re.escape(name) + r" (?!:)([^=\n]*?) ?=(?= |\n)", text))
+    if len(eqs) != 1:
+        return None
+    eq = eqs[0]
+    params = eq.group(1).split()
+    if not params or any(c in eq.group(1) for c in "(){}"):
+        return None
+    head = text[m.end() : eq.start()]
+    unfolds = []
+    u = re.search(r"(?m)^unfolding (.*)$", head)
+    if u:
+        unfolds = u.group(1).split()
+        head = head[: u.start()]
+    body = text[eq.end() :].strip()
+    if len(params) > 1:
+        body = "λ " + " ".join(params[1:]) + ". " + body
+    as_c = lambda x, v: re.sub(r"(?<![\w.'′-])" + re.escape(v) + r"(?![\w'′-])", "c", x) if v and v != "c" else x
+    type_ = as_c(head.strip(), m.group(3))
+    body = flat(as_c(body, params[0]))
+    type_ = flat(type_)
+    kind = "place" if re.fullmatch(r"c(\.before)*", body) else "value" if m.group(1) else "law"
+    return name, kind, type_, unfolds, body
+
+
+def inline(text, inlined, special=None):
+    """The text with each such helper written out where it is handed a place, and what has to be unfolded for that. A law that unfolds is kept, for that place."""
+    unfolds = []
+    for name, (kind, type_, unf, body) in reversed(list(inlined.items())):
+
+        def put(w):
+            if special is not None and kind == "law" and (unf or type_.startswith("{")):
+                return ("(" if w.group(0).startswith("(") else "") + special(name) + " c" + (")" if w.group(0).startswith("(") else "")
+            if special is None and kind == "law" and (unf or type_.startswith("{")):
+                return w.group(0)
+            unfolds.extend(unf)
+            if kind == "place":
+                return "c"
+            if kind == "value":
+                return f"({body})"
+            flat = re.sub(r"\s*\n\s*", " ", type_)
+            return f"(let it : {flat} = {body} in it)"
+
+        pat = re.escape(name) + r" [\w'′-]+(?:\.before)*(?![\w.'′-])"
+        text = re.sub(r"\(" + pat + r"\)", put, text)
+        text = re.sub(r"(?<![\w.'′-])" + pat, put, text)
+    return text, unfolds
+
+
 def answers_of(crate, fn, info, stem):
     folder = f"crates/{crate}/proofs/{stem}"
     path = f"{folder}/Proof.antt"
@@ -93,7 +321,10 @@ def answers_of(crate, fn, info, stem):
     needs = {}
     for old, new in info["needs"]:
         needs.setdefault(N(old), new)
-    turn = path_turner(info["places"], said)
+    turn, place_of = path_turner(crate, stem.split("/")[-1], info, said)
+    asked = {}
+    for (old, new), at in zip(info["needs"], info["asked_at"]):
+        asked[new] = at[1]
     uses, helpers, invs, answers, head = [], [], [], [], []
     loops = {}
     for loop, changed in zip(info["loops"], info["changed"]):
@@ -129,7 +360,7 @@ def answers_of(crate, fn, info, stem):
                 new = "UNKNOWN-" + goal[5:]
             body = re.sub(r"(?m)^" + re.escape(name) + r"(?= )", new, body)
             body = re.sub(r"(?m)^(" + re.escape(new) + r" [^=\n]*?) κs(?= )", r"\1", body)
-            answers.append((new, comments, turn(body)))
+            answers.append((new, comments, body, key))
         else:
             kind, loop = goal.split("-", 1)
             got = loops.get(N(loop))
@@ -153,6 +384,66 @@ def answers_of(crate, fn, info, stem):
             sub = dict(zip(params, wanted))
             term = re.sub(r"[^\s(){}\[\],;.«»:]+", lambda q: q.group(0) if term[q.start() - 1 : q.start()] == "." else sub.get(q.group(0), q.group(0)), term)
             invs.append((new, comments, f"{pre}{new} l ={term}"))
+    # A lemma over a place of the walk stands, in the newer form, where it is used.
+    inlined = {}
+    rest = []
+    for b in helpers:
+        q = inline_of(b)
+        if q is None:
+            if "tie." in b:
+                said.append("helper " + (names_in(b) or ["?"])[0])
+            rest.append(b)
+        else:
+            name, kind, type_, unfolds, body = q
+            body, more = inline(body, inlined)
+            type_, more2 = inline(type_, inlined)
+            inlined[name] = (kind, flat(type_), unfolds + more + more2, flat(body))
+    helpers = rest
+    turned = []
+    specials, stay_laws = {}, []
+    callees = {}
+    for p in info["places"]:
+        if p[3] and "::" in p[3]:
+            callees[p[3].split("::")[-1]] = p[3]
+    for new, comments, body, key in answers:
+        q = re.match(r"((?:.|\n)*?^" + re.escape(new) + r" )(\S+)( [^=\n]*)?=", body, re.M)
+        if q and q.group(2) != "c" and q.group(2) != "_":
+            said.append("argument of " + new)
+        body = flat(body)
+        place = asked.get(new)
+
+        def special(name):
+            if (name, place) not in specials:
+                as_ = name if not any(n == name for n, _ in specials) else f"{name}_{1 + sum(n == name for n, _ in specials)}"
+                specials[(name, place)] = as_
+                kind, type_, unf, law = inlined[name]
+                type_, more1 = inline(type_, {k: v for k, v in inlined.items() if k != name}, special)
+                law, more2 = inline(law, {k: v for k, v in inlined.items() if k != name}, special)
+                unf = list(dict.fromkeys(unf + more1 + more2))
+                arrow = " " if type_.startswith("{") else " → "
+                stay_laws.append("\n".join([f"{as_} : (c : goal.{place}){arrow}{turn(type_, place, {})}"] + (["unfolding " + " ".join(unf)] if unf else []) + [f"{as_} c = {turn(law, place, {})}"]))
+            return specials[(name, place)]
+
+        body, more = inline(body, inlined, special)
+        body = flat(body)
+        if more:
+            had = re.search(r"(?m)^unfolding (.*)$", body)
+            all_ = list(dict.fromkeys((had.group(1).split() if had else []) + more))
+            body = (body[: had.start()] + body[had.end() :].lstrip("\n") if had else body).lstrip("\n")
+            body = "unfolding " + " ".join(all_) + "\n" + body
+        body = turn(body, asked.get(new), {})
+        q = re.match(r"^(\w+?)(?:-.*)?-requires", new)
+        if q and q.group(1) in callees:
+            of = FUNCTIONS.get((callees[q.group(1)].split("::")[0], q.group(1)))
+            if of and of[0]:
+                if not re.search(r"(search rules|omega arith)\s*$", body):
+                    r = as_record(body, of[0])
+                    if r is None:
+                        said.append(f"clauses of {new}: {of[0]}")
+                    else:
+                        body = r
+        turned.append((new, comments, body))
+    answers = turned
     # What an invariant speaks of goes with it.
     inv_text = "\n".join(i[2] for i in invs)
     moved = []
@@ -166,7 +457,7 @@ def answers_of(crate, fn, info, stem):
                 moved.append(b)
                 more = True
     moved = [b for b in helpers if b in moved]
-    stay = [b for b in helpers if b not in moved]
+    stay = [b for b in helpers if b not in moved] + stay_laws
     base = f"Rattle.{crate}.proofs.{stem.replace('/', '.')}"
 
     def needed(text, lines):
@@ -206,6 +497,8 @@ def answers_of(crate, fn, info, stem):
         lines = needed(body, uses)
         if used:
             lines.append(f"use {base}.Invariants.{{{', '.join(used)}}}")
+        if "lts." in body:
+            lines.append(f"use {base}.Lts as lts")
         files["Answers.antt"] = "\n".join(head + lines + [f"use {base}.Goals as goal", "", body, ""])
     if head and "Answers.antt" not in files and "Invariants.antt" in files:
         files["Invariants.antt"] = "\n".join(head) + "\n" + files["Invariants.antt"]

@@ -11,7 +11,7 @@ ghost use Rattle.charges.specs.Charges.{ChargeAt, ChargesOf};
 use reader::View;
 
 // What one processor charges, and where the record after its own begins.
-#[derive(Drop)]
+#[derive(Clone, Copy)]
 struct Charge {
     price: u64,
     minimum: u64,
@@ -40,7 +40,7 @@ fn charge_at(s: &[u8], at: usize) -> Charge
 }
 
 // What the processors charge: prices per minute and minimums, 0 past the last processor.
-#[derive(Drop)]
+#[derive(Clone, Copy)]
 pub struct Charges {
     pub prices: [u64; 16],
     pub minimums: [u64; 16],

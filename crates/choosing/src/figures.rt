@@ -5,7 +5,7 @@ ghost use Rattle.choosing.specs.Asked.{asked};
 ghost use Rattle.choosing.specs.Figured.{BestCost, Passed, FiguresOf, FiguresInRange, Weighed, may_by, score_by, standing_by};
 
 // RB and RCB, and of the processors passed: the cost of the best, the earliest and the latest finish, the lowest and the highest cost.
-#[derive(Drop)]
+#[derive(Clone, Copy)]
 pub struct Figures {
     pub rb: u64,
     pub rcb: u64,
@@ -89,7 +89,7 @@ fn may_be_taken(g: Figures, cost: u64) -> bool
 }
 
 // What a unit of cost saved and a minute of earlier finish count for in the score: RCB x F' and B' x RB'.
-#[derive(Drop)]
+#[derive(Clone, Copy)]
 pub struct Weights {
     pub saved: u64,
     pub early: u64,

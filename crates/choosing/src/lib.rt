@@ -12,7 +12,7 @@ ghost use Rattle.choosing.specs.Leading.{ahead_by, led_by};
 mod figures;
 
 // HBCS; "each task to its lowest cost, ties to earliest finish, then lower number"; "each task to best".
-#[derive(Drop)]
+#[derive(Clone, Copy)]
 pub enum Method {
     Hbcs,
     Cheapest,
@@ -20,7 +20,7 @@ pub enum Method {
 }
 
 // The one to take among the processors passed, with its standing and its finish; all 0, so processor 0, while none may be taken.
-#[derive(Drop)]
+#[derive(Clone, Copy)]
 pub struct Leader {
     pub processor: usize,
     pub standing: u64,

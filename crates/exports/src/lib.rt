@@ -38,7 +38,7 @@ pub extern "C" fn zabgurin_label_len(request: &[u8], at: usize) -> usize
 // What reading says. `number` is that of the refusal, 1 to 6, with its place; or 0 for a good request, with its numbers and where its parts begin. A
 // deadline of 0 is none. `share_given` is 1 where the budget is set by a share, else 0, and then `share` is 0 too.
 #[repr(C)]
-#[derive(Drop)]
+#[derive(Clone, Copy)]
 pub struct ZabgurinReading {
     pub number: u64,
     pub place: usize,
@@ -104,7 +104,7 @@ pub extern "C" fn zabgurin_read(request: &[u8]) -> ZabgurinReading
 
 // A part of the request's bytes.
 #[repr(C)]
-#[derive(Drop)]
+#[derive(Clone, Copy)]
 pub struct ZabgurinPart {
     pub begin: usize,
     pub length: usize,

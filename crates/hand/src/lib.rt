@@ -17,7 +17,7 @@ use choosing::Method;
 use reader::View;
 
 // The row of the task in hand.
-#[derive(Drop)]
+#[derive(Clone, Copy)]
 pub struct Row {
     pub processor: usize,
     pub start: u64,

@@ -12,7 +12,7 @@ ghost use Rattle.lookup.specs.Lookup.{workflow_of, meant_part, LabelOf};
 use reader::{Reading, View};
 
 // A window: its processor is down from `begin` on, up to `end`.
-#[derive(Drop)]
+#[derive(Clone, Copy)]
 pub struct Window {
     pub processor: usize,
     pub begin: u64,
@@ -91,7 +91,7 @@ pub fn transfer(s: &[u8], v: View, edge: usize) -> u64
 }
 
 // A part of the request's bytes.
-#[derive(Drop)]
+#[derive(Clone, Copy)]
 pub struct Part {
     pub begin: usize,
     pub length: usize,

@@ -9,7 +9,7 @@ ghost use Rattle.parts.specs.Meaning.{meant_part, run_of, past};
 use records::{Cursor, RecordAnswer};
 
 // A part of the request was read up to a cursor, or refused: number and place.
-#[derive(Drop)]
+#[derive(Clone, Copy)]
 pub enum Passed {
     To(Cursor),
     Refused(u64, usize),
@@ -44,7 +44,7 @@ pub fn read_prices(s: &[u8], c: Cursor, m: usize) -> Passed
 
 // Records of one kind, as many as stand there: how many. One more than the limit is refused, so that no more are looked for (`windows_enough` and
 // `edges_enough`, crate `good`).
-#[derive(Drop)]
+#[derive(Clone, Copy)]
 pub struct RunPart {
     pub passed: Passed,
     pub count: usize,

@@ -17,7 +17,7 @@ use choosing::Method;
 use reader::View;
 
 // "Either a plan summary (n, length, cost, budget left) or a refusal (number, place)."
-#[derive(Drop)]
+#[derive(Clone, Copy)]
 pub enum Answer {
     Planned {
         n: u64,
@@ -32,7 +32,7 @@ pub enum Answer {
 }
 
 // The answer, and the rows of all tasks in four arrays; 0 past the last task, and in all of them for a refusal.
-#[derive(Drop)]
+#[derive(Clone, Copy)]
 pub struct Planning {
     pub answer: Answer,
     pub processors: [u64; 64],
@@ -42,7 +42,7 @@ pub struct Planning {
 }
 
 // "the cheapest plan's cost, the HEFT plan's cost; or the refusal": number, place.
-#[derive(Drop)]
+#[derive(Clone, Copy)]
 pub enum Costs {
     Between { cheapest: u64, heft: u64 },
     Refused { number: u64, place: u64 },

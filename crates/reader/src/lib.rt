@@ -10,13 +10,13 @@ use parts::Passed;
 use records::{Cursor, Record, RecordAnswer};
 
 // "No `D` means no deadline."
-#[derive(Drop)]
+#[derive(Clone, Copy)]
 pub enum Deadline {
     Without,
     By(u64),
 }
 
-#[derive(Drop)]
+#[derive(Clone, Copy)]
 pub struct DeadlinePart {
     pub passed: Passed,
     pub deadline: Deadline,
@@ -52,13 +52,13 @@ fn read_deadline(s: &[u8], c: Cursor) -> DeadlinePart
 }
 
 // "No `K` means the budget of `H`."
-#[derive(Drop)]
+#[derive(Clone, Copy)]
 pub enum Share {
     Without,
     Of(u64),
 }
 
-#[derive(Drop)]
+#[derive(Clone, Copy)]
 pub struct SharePart {
     pub passed: Passed,
     pub share: Share,
@@ -95,7 +95,7 @@ fn read_share(s: &[u8], c: Cursor, budget: u64) -> SharePart
 
 // A good request: its numbers, and where its parts begin. Windows, minutes and edges are read where they stand; one walks over the processor records, each as
 // long as its kind.
-#[derive(Drop)]
+#[derive(Clone, Copy)]
 pub struct View {
     pub tasks: usize,
     pub processors: usize,
@@ -111,7 +111,7 @@ pub struct View {
 }
 
 // A good request, or a refusal: its number, 1 to 6, and its place.
-#[derive(Drop)]
+#[derive(Clone, Copy)]
 pub enum Reading {
     Good(View),
     Refused(u64, usize),

@@ -18,7 +18,7 @@ use reader::View;
 
 // What stands against a start: data that arrives later, a window or a row that the task would overlap; or that the start is not below the task's own; or that
 // there is no such task, or no plan.
-#[derive(Drop)]
+#[derive(Clone, Copy)]
 pub enum Why {
     LateData { from: u64, minute: u64 },
     InWindow { begin: u64, end: u64 },
@@ -29,14 +29,14 @@ pub enum Why {
 }
 
 // The edge into a task whose data is the last on a processor, and its minute; edge 0 and minute 0 where there is none.
-#[derive(Drop)]
+#[derive(Clone, Copy)]
 struct Arrival {
     edge: usize,
     minute: u64,
 }
 
 // The window that a task would overlap, if there is one.
-#[derive(Drop)]
+#[derive(Clone, Copy)]
 enum Met {
     Nothing,
     During { begin: u64, end: u64 },

@@ -8,13 +8,13 @@ ghost use Rattle.rules.specs.Records.{header_at, deadline_at, share_at, price_at
 ghost use Rattle.records.specs.Meaning.{meant};
 
 // Where a record begins.
-#[derive(Drop)]
+#[derive(Clone, Copy)]
 pub struct Cursor {
     pub at: usize,
 }
 
 // A record with its fields. A label is kept as its offset.
-#[derive(Drop)]
+#[derive(Clone, Copy)]
 pub enum Record {
     Header {
         tasks: usize,
@@ -59,7 +59,7 @@ pub enum Record {
 }
 
 // The cursor past a record and the record, or a refusal: its number and its place.
-#[derive(Drop)]
+#[derive(Clone, Copy)]
 pub enum RecordAnswer {
     Read(Cursor, Record),
     Refused(u64, usize),

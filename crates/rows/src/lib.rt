@@ -11,7 +11,7 @@ use choosing::Method;
 use planner::{Answer, Planning};
 
 // "row i for task i: processor, start, finish, cost"
-#[derive(Drop)]
+#[derive(Clone, Copy)]
 pub struct Row {
     pub processor: u64,
     pub start: u64,
@@ -73,7 +73,7 @@ pub fn plan(request: &[u8], method: Method, rows: &mut [Row]) -> Answer
 }
 
 // The answer, and 64 rows, as many as a request has tasks at the most.
-#[derive(Drop)]
+#[derive(Clone, Copy)]
 pub struct WholePlan {
     pub answer: Answer,
     pub rows: [Row; 64],

@@ -15,7 +15,7 @@ use planner::Answer;
 use reader::{Reading, View};
 
 // How the text was printed: so many bytes, or that the buffer is too small for so many.
-#[derive(Drop)]
+#[derive(Clone, Copy)]
 pub enum Printed {
     Whole(usize),
     TooSmall(usize),

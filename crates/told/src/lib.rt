@@ -44,7 +44,7 @@ pub fn thousandths(share: Share) -> u64
 // How a request is answered. `number` is that of the refusal, 1 to 9 or 11, with its place; or 0 for a plan, with its number of tasks, its length, its cost and
 // the budget left.
 #[repr(C)]
-#[derive(Drop)]
+#[derive(Clone, Copy)]
 pub struct ZabgurinAnswer {
     pub number: u64,
     pub place: u64,
@@ -85,7 +85,7 @@ pub fn answer_told(answer: Answer) -> ZabgurinAnswer
 
 // What the cheapest plan and the HEFT plan cost. `number` is that of the refusal that both get, 1 to 6 or 8, with its place; or 0, with the costs.
 #[repr(C)]
-#[derive(Drop)]
+#[derive(Clone, Copy)]
 pub struct ZabgurinCosts {
     pub number: u64,
     pub place: u64,
@@ -117,7 +117,7 @@ pub fn costs_told(costs: Costs) -> ZabgurinCosts
 // `begin`; 2: its processor is down from `begin` up to `end`; 3: its processor runs `task` from `begin` up to `end`; 4: its own start is `begin`, so that minute is
 // not sooner; 5: there is no such task, the request has `task` of them. All else is 0.
 #[repr(C)]
-#[derive(Drop)]
+#[derive(Clone, Copy)]
 pub struct ZabgurinWhy {
     pub number: u64,
     pub place: u64,
