@@ -216,6 +216,8 @@ def path_turner(crate, fn, info, said):
             t = re.sub(r"(?<![\w.'′@-])(" + re.escape(a) + r")((?:\.[^\s(){}\[\],;.«»]+)+)", turn, t)
         for q in set(re.findall(r"\blet (\S+) = c\.args in\b", t)):
             t = re.sub(r"(?<![\w.'′-])" + re.escape(q) + r"\.([^\s(){}\[\],;.«»]+)", lambda w: q + "." + w.group(1).replace("-", "_"), t)
+        # The newer form says of a test `!x` what it says of x.
+        t = re.sub(r"not-(?:true|false) c\.[^\s()]+ (c\.if-not[^\s,()]*\.(?:true|false))", r"\1", t)
         t = t.replace("@@", "").replace(".@before", ".before")
         known = {a[1] for a in info["asked_at"]}
 
@@ -313,6 +315,30 @@ def inline(text, inlined, special=None):
     return text, unfolds
 
 
+def freed(term, params):
+    """The term with what it binds under a parameter's name bound under another."""
+    for p in params:
+        for pat in (r"λ [^.]*?(?<![\w.'′-])(" + re.escape(p) + r")(?![\w'′-])[^.]*?\. ", r"\((" + re.escape(p) + r") : [^()]*\) (?:→|×) "):
+            at = 0
+            while True:
+                m = re.compile(pat).search(term, at)
+                if not m:
+                    break
+                depth, i = 0, m.end()
+                while i < len(term):
+                    if term[i] in "([{":
+                        depth += 1
+                    if term[i] in ")]}":
+                        depth -= 1
+                        if depth < 0:
+                            break
+                    i += 1
+                inside = re.sub(r"(?<![\w.'′-])" + re.escape(p) + r"(?![\w'′-])", p + "'", term[m.start() : i])
+                term = term[: m.start()] + inside + term[i:]
+                at = m.end() + 1
+    return term
+
+
 def answers_of(crate, fn, info, stem):
     folder = f"crates/{crate}/proofs/{stem}"
     path = f"{folder}/Proof.antt"
@@ -382,6 +408,7 @@ def answers_of(crate, fn, info, stem):
             if len(params) != len(wanted):
                 said.append(f"params {goal} {params} {wanted}")
             sub = dict(zip(params, wanted))
+            term = freed(term, params)
             term = re.sub(r"[^\s(){}\[\],;.«»:]+", lambda q: q.group(0) if term[q.start() - 1 : q.start()] == "." else sub.get(q.group(0), q.group(0)), term)
             invs.append((new, comments, f"{pre}{new} l ={term}"))
     # A lemma over a place of the walk stands, in the newer form, where it is used.
