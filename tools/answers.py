@@ -166,9 +166,10 @@ def path_turner(crate, fn, info, said):
             parts.pop(0)
         if parts:
             k = N(parts[0])
-            arm = next((v for (s, f), v in arms.items() if s == k and tuple(parts[1 : 1 + len(f)]) == f), None)
-            if arm:
-                parts = list(arm) + parts[3:]
+            fits = [f for s, f in arms if s == k and tuple(parts[1 : 1 + len(f)]) == f]
+            if fits:
+                f = max(fits, key=len)
+                parts = list(arms[(k, f)]) + parts[1 + len(f) :]
             elif k in table:
                 parts[0] = table[k]
                 if len(parts) > 2 and parts[1] == "new" and parts[2].isdigit() and callee.get(k) and "::" in callee[k]:

@@ -28,7 +28,7 @@ told (read end r) =
       windows_at = r.windows_at;
       windows = r.windows;
       tasks_at = r.tasks_at;
-      edges_at = r.edges-at;
+      edges_at = r.edges_at;
       edges = r.edges;
     }
 told (stopped number place) =

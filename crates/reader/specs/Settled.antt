@@ -33,7 +33,7 @@ reading_for (read end r) =
       windows_at = r.windows_at;
       windows = r.windows;
       tasks_at = r.tasks_at;
-      edges_at = r.edges-at;
+      edges_at = r.edges_at;
       edges = r.edges;
     })
 reading_for (stopped number place) = Refused number place

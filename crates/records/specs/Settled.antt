@@ -1,4 +1,4 @@
--- Two answers with one meaning are one answer: a contract that settles the meaning settles the answer.
+-- Two records or answers with one meaning are one: a contract that settles the meaning settles the answer.
 use Rattle.std.specs.Prelude.{◌≡◌, refl}
 use Rattle.std.proofs.Common.{sym, ◌∙◌, ap}
 use Rattle.rules.specs.Records as rules
@@ -37,6 +37,9 @@ record_again (Task task label) = refl
 record_again (Minutes task processor minutes) = refl
 record_again (Edge from to transfer) = refl
 record_again End = refl
+
+pub record_settled : (a b : Record) → meant_record a ≡ meant_record b → a ≡ b
+record_settled a b same = sym (record_again a) ∙ ap record_for same ∙ record_again b
 
 answer_again : (a : RecordAnswer) → answer_for (meant a) ≡ a
 unfolding answer_for
