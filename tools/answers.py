@@ -219,6 +219,7 @@ def path_turner(crate, fn, info, said):
             t = re.sub(r"(?<![\w.'′-])" + re.escape(q) + r"\.([^\s(){}\[\],;.«»]+)", lambda w: q + "." + w.group(1).replace("-", "_"), t)
         # The newer form says of a test `!x` what it says of x.
         t = re.sub(r"not-(?:true|false) c\.[^\s()]+ (c\.if-not[^\s,()]*\.(?:true|false))", r"\1", t)
+        t = re.sub(r"\.ptr(?![\w'′-])", ".ref_ptr", t)
         t = t.replace("@@", "").replace(".@before", ".before")
         known = {a[1] for a in info["asked_at"]}
 
@@ -250,12 +251,23 @@ def public(block):
     return "\n".join(out)
 
 
+STEPS = set()
+
+
 def flat(text):
-    """Names that are bound to an earlier place are the place itself, since the newer form has all of its facts in one record."""
+    """Names that are bound to an earlier place are the place itself, since the newer form has all of its facts in one record; and a step whose facts go by
+    an arm's names now is written out."""
     while True:
         m = re.search(r"\blet (\S+) = c((?:\.before)*) in\b[ ]*\n?", text)
         if not m:
-            return text
+            for q in re.finditer(r"\blet (\S+) = (c(?:\.before)*\.([^\s.()]+)) in\b[ ]*\n?", text):
+                if N(q.group(3)) in STEPS:
+                    break
+            else:
+                return text
+            text = text[: q.start()] + (re.sub(r"^\s*", "", text[q.end() :]) if text[: q.start()].endswith(" ") else text[q.end() :])
+            text = re.sub(r"(?<![\w.'′-])" + re.escape(q.group(1)) + r"(?=[\s.,;()]|$)(?! =)", q.group(2), text)
+            continue
         text = text[: m.start()] + re.sub(r"^\s*", "", text[m.end() :]) if text[: m.start()].endswith(" ") else text[: m.start()] + text[m.end() :]
         text = re.sub(r"(?<![\w.'′-])" + re.escape(m.group(1)) + r"(?=[\s.,;()]|$)(?! =)", "c", text)
 
@@ -349,6 +361,8 @@ def answers_of(crate, fn, info, stem):
     for old, new in info["needs"]:
         needs.setdefault(N(old), new)
     turn, place_of = path_turner(crate, stem.split("/")[-1], info, said)
+    STEPS.clear()
+    STEPS.update(N(step) for a in info["arms"] if a for _, step, fields in a[2] if fields)
     asked = {}
     for (old, new), at in zip(info["needs"], info["asked_at"]):
         asked[new] = at[1]
@@ -381,7 +395,7 @@ def answers_of(crate, fn, info, stem):
         body = "\n".join(rest[1:])
         if goal.startswith("Need-"):
             key = N(goal[5:])
-            new = needs.get(key) or needs.get(re.sub(r"^overflow-", "", key))
+            new = needs.get(key) or needs.get(re.sub(r"^overflow-", "", key)) or next((n for _, n in info["needs"] if N(n) == key), None) or needs.get(N(name))
             if new is None:
                 said.append("goal " + goal)
                 new = "UNKNOWN-" + goal[5:]
