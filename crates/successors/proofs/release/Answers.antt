@@ -43,7 +43,7 @@ in_array : (c : goal.After-to-to) → c.to-to.result < 64
 unfolding workflow
 in_array c = omega (arith, c.to-to.ensures.1, (let it : InRange (workflow_of c.args.s.now c.args.v) = view_in_range c.args.s.now c.args.v c.requires.view_of in it).tasks_in)
 
-in_array_2 : (c : goal.None) → c.to-to.result < 64
+in_array_2 : (c : goal.After-way_told-in-loop-e-1) → c.to-to.result < 64
 unfolding workflow
 in_array_2 c = omega (arith, c.to-to.ensures.1, (let it : InRange (workflow_of c.args.s.now c.args.v) = view_in_range c.args.s.now c.args.v c.requires.view_of in it).tasks_in)
 
@@ -98,8 +98,8 @@ to-to-requires c =
 pub offset_bounds-held-to : goal.offset_bounds-held-to
 offset_bounds-held-to c = omega (arith, in_array c)
 
-pub UNKNOWN-element-copy-out-smaller : goal.UNKNOWN-element-copy-out-smaller
-UNKNOWN-element-copy-out-smaller c = in_array_2 c
+pub bounds-held-to : goal.bounds-held-to
+bounds-held-to c = in_array_2 c
 
 pub offset_bounds-held-to-in-loop-e : goal.offset_bounds-held-to-in-loop-e
 offset_bounds-held-to-in-loop-e c = omega (arith, in_array_3 c)
