@@ -165,6 +165,10 @@ def path_turner(crate, fn, info, said):
         while parts and parts[0] == "before":
             parts.pop(0)
         if parts:
+            if parts[0] == "pre":
+                parts[0] = "requires"
+            if parts[0].startswith("loop") and len(parts) > 1 and parts[1] == "inv":
+                parts[1] = "invariant"
             k = N(parts[0])
             fits = [f for s, f in arms if s == k and tuple(parts[1 : 1 + len(f)]) == f]
             if fits:
@@ -217,6 +221,7 @@ def path_turner(crate, fn, info, said):
             t = re.sub(r"(?<![\w.'′@-])(" + re.escape(a) + r")((?:\.[^\s(){}\[\],;.«»]+)+)", turn, t)
         for q in set(re.findall(r"\blet (\S+) = c\.args in\b", t)):
             t = re.sub(r"(?<![\w.'′-])" + re.escape(q) + r"\.([^\s(){}\[\],;.«»]+)", lambda w: q + "." + w.group(1).replace("-", "_"), t)
+        t = t.replace("@before", ".before")
         # The newer form says of a test `!x` what it says of x.
         t = re.sub(r"not-(?:true|false) c\.[^\s()]+ (c\.if-not[^\s,()]*\.(?:true|false))", r"\1", t)
         t = re.sub(r"\.ptr(?![\w'′-])", ".ref_ptr", t)
@@ -232,6 +237,8 @@ def path_turner(crate, fn, info, said):
 
         return re.sub(r"tie\.([^\s()]+)((?: (?:invariant|decreases)-[^\s()]+)*)", typed, t)
 
+    whole.up = up
+    whole.old_of = lambda new: places[byname.index(new)][0]
     return whole, place_of
 
 
@@ -252,6 +259,9 @@ def public(block):
 
 
 STEPS = set()
+LTS = "--shared" in sys.argv
+if LTS:
+    sys.argv.remove("--shared")
 
 
 def flat(text):
@@ -276,7 +286,7 @@ def inline_of(block):
     """A helper whose first argument is a place: its name, kind, type, what it unfolds and its body, of `c`; else None."""
     lines = [l for l in block.split("\n") if not l.startswith("--")]
     text = "\n".join(lines)
-    m = re.match(r"(abbrev )?(?:pub )?(\S+) :\s+(?:\((\S+) : tie\.[^()]*\)|tie\.[^()→]*?)(?:\s+→\s+|\s+(?=\{))", text)
+    m = re.match(r"(abbrev )?(?:pub )?(\S+) :\s+(?:\((\S+) : tie\.[^()]*\)|tie\.[^()→]*?)(\s+→\s+|\s+(?=[{(]))", text)
     if not m or re.search(r"(?m)^\s*where\b", text) or text.startswith(("module", "record", "data")):
         return None
     name = m.group(2)
@@ -300,6 +310,8 @@ def inline_of(block):
     type_ = as_c(head.strip(), m.group(3))
     body = flat(as_c(body, params[0]))
     type_ = flat(type_)
+    if "→" not in m.group(4):
+        type_ = "§" + type_
     kind = "place" if re.fullmatch(r"c(\.before)*", body) else "value" if m.group(1) else "law"
     return name, kind, type_, unfolds, body
 
@@ -310,19 +322,25 @@ def inline(text, inlined, special=None):
     for name, (kind, type_, unf, body) in reversed(list(inlined.items())):
 
         def put(w):
-            if special is not None and kind == "law" and (unf or type_.startswith("{")):
-                return ("(" if w.group(0).startswith("(") else "") + special(name) + " c" + (")" if w.group(0).startswith("(") else "")
-            if special is None and kind == "law" and (unf or type_.startswith("{")):
+            if special is not None and kind == "law" and (LTS or unf or type_.startswith("§")):
+                return ("(" if w.group(0).startswith("(") else "") + special(name) + (")" if w.group(0).startswith("(") else "")
+            if special is None and kind == "law" and (LTS or unf or type_.startswith("§")):
                 return w.group(0)
-            unfolds.extend(unf)
             if kind == "place":
                 return "c"
+            if kind == "value" and LTS:
+                if special is None:
+                    return w.group(0)
+                return ("(" if w.group(0).startswith("(") else "") + special(name) + (")" if w.group(0).startswith("(") else "")
+            unfolds.extend(unf)
             if kind == "value":
                 return f"({body})"
             flat = re.sub(r"\s*\n\s*", " ", type_)
+            if not re.search(r"(?<![\w.'′-])(omega|simp|rw|cc|search|grind|record|λ|let|absurd|elim|refl)(?![\w'′-])", body) and "_ " not in body + " ":
+                return f"({body})"
             return f"(let it : {flat} = {body} in it)"
 
-        pat = re.escape(name) + r" [\w'′-]+(?:\.before)*(?![\w.'′-])"
+        pat = re.escape(name) + r" [\w'′-]+(?:\.before)*(?![\w.'′@-])"
         text = re.sub(r"\(" + pat + r"\)", put, text)
         text = re.sub(r"(?<![\w.'′-])" + pat, put, text)
     return text, unfolds
@@ -401,7 +419,7 @@ def answers_of(crate, fn, info, stem):
                 new = "UNKNOWN-" + goal[5:]
             body = re.sub(r"(?m)^" + re.escape(name) + r"(?= )", new, body)
             body = re.sub(r"(?m)^(" + re.escape(new) + r" [^=\n]*?) κs(?= )", r"\1", body)
-            answers.append((new, comments, body, key))
+            answers.append((new, comments, body, key, name))
         else:
             kind, loop = goal.split("-", 1)
             got = loops.get(N(loop))
@@ -411,7 +429,7 @@ def answers_of(crate, fn, info, stem):
                 continue
             new, vars_, changed = got
             new = f"{kind}-{new}"
-            eq = re.search(r"(?m)^" + re.escape(name) + r"((?: \S+)*?) =((?:.|\n)*)$", body)
+            eq = re.search(r"(?m)^" + re.escape(name) + r"((?:\s+\S+)*?)\s=((?:.|\n)*)$", body)
             if not eq:
                 said.append("form " + goal)
                 helpers.append(b)
@@ -428,9 +446,13 @@ def answers_of(crate, fn, info, stem):
             invs.append((new, comments, f"{pre}{new} l ={term}"))
     # A lemma over a place of the walk stands, in the newer form, where it is used.
     inlined = {}
+    homes = {}
     rest = []
     for b in helpers:
         q = inline_of(b)
+        home = re.search(r": ?(?:\(\S+ : )?tie\.([^\s()]+)", b.replace("\n   ", ""))
+        if q is not None and home:
+            homes[q[0]] = place_of(home.group(1))
         if q is None:
             if "tie." in b:
                 said.append("helper " + (names_in(b) or ["?"])[0])
@@ -441,13 +463,21 @@ def answers_of(crate, fn, info, stem):
             type_, more2 = inline(type_, inlined)
             inlined[name] = (kind, flat(type_), unfolds + more + more2, flat(body))
     helpers = rest
+    # An answer that is cited by another is kept, under its new name.
+    local = {n0: new for new, _, _, _, n0 in answers}
     turned = []
-    specials, stay_laws = {}, []
+    specials, stay_laws, places_said = {}, [], {}
     callees = {}
     for p in info["places"]:
         if p[3] and "::" in p[3]:
             callees[p[3].split("::")[-1]] = p[3]
-    for new, comments, body, key in answers:
+    cited = set()
+    for new, comments, body, key, name in answers:
+        for other, to in local.items():
+            if other != name:
+                body, k = re.subn(r"(?<=[ (])" + re.escape(other) + r"(?= c\b)", to, body)
+                if k:
+                    cited.add(to)
         q = re.match(r"((?:.|\n)*?^" + re.escape(new) + r" )(\S+)( [^=\n]*)?=", body, re.M)
         if q and q.group(2) != "c" and q.group(2) != "_":
             said.append("argument of " + new)
@@ -462,11 +492,44 @@ def answers_of(crate, fn, info, stem):
                 type_, more1 = inline(type_, {k: v for k, v in inlined.items() if k != name}, special)
                 law, more2 = inline(law, {k: v for k, v in inlined.items() if k != name}, special)
                 unf = list(dict.fromkeys(unf + more1 + more2))
-                arrow = " " if type_.startswith("{") else " → "
+                arrow = " " if type_.startswith("§") else " → "
+                type_ = type_.lstrip("§")
                 stay_laws.append("\n".join([f"{as_} : (c : goal.{place}){arrow}{turn(type_, place, {})}"] + (["unfolding " + " ".join(unf)] if unf else []) + [f"{as_} c = {turn(law, place, {})}"]))
-            return specials[(name, place)]
+            return specials[(name, place)] + " c"
 
-        body, more = inline(body, inlined, special)
+        def shared(at):
+            """In the form in which a law over a place is said once, of the kit's own record of that place."""
+
+            def f(name):
+                to = homes[name]
+                k = turn.up(at, to)
+                if k is None:
+                    said.append(f"no way from {at} to {to}")
+                    k = 0
+                if name not in [n for n, _ in specials]:
+                    specials[(name, to)] = name
+                    kind, type_, unf, law = inlined[name]
+                    rest_ = {k2: v for k2, v in inlined.items() if k2 != name}
+                    type_, more1 = inline(type_, rest_, shared(to))
+                    law, more2 = inline(law, rest_, shared(to))
+                    unf = list(dict.fromkeys(unf + more1 + more2))
+                    arrow = " " if type_.startswith("§") else " → "
+                    alias = "At-" + to
+                    if alias not in places_said:
+                        places_said[alias] = turn.old_of(to)
+                    if kind == "value":
+                        stay_laws.append("\n".join([f"abbrev {name} : {alias} → {turn(type_, to, {})}"] + (["unfolding " + " ".join(unf)] if unf else []) + [f"{name} c = {turn(law, to, {})}"]))
+                        return f"{name} c" + "@before" * k
+                    stay_laws.append("\n".join([f"{name} : (c : {alias}){arrow}{turn(type_.lstrip('§'), to, {})}"] + (["unfolding " + " ".join(unf)] if unf else []) + [f"{name} c = {turn(law, to, {})}"]))
+                return f"{name} c" + "@before" * k
+
+            return f
+
+        if LTS:
+            top = shared(place)
+            body, more = inline(body, inlined, lambda n: top(n).replace(" c", " c@before", 1))
+        else:
+            body, more = inline(body, inlined, special)
         body = flat(body)
         if more:
             had = re.search(r"(?m)^unfolding (.*)$", body)
@@ -525,7 +588,7 @@ def answers_of(crate, fn, info, stem):
     if invs:
         body = "\n\n".join([public(b) for b in moved] + ["\n".join(c + [f"abbrev pub {n} : goal.{n}", t]) for n, c, t in invs])
         files["Invariants.antt"] = "\n".join(needed(body, uses) + [f"use {base}.Given as goal", "", body, ""])
-    trivial = [a for a in answers if re.fullmatch(r"\s*" + re.escape(a[0]) + r" [^=]*=\s*(search rules|omega arith)\s*", a[2])]
+    trivial = [a for a in answers if a[0] not in cited and re.fullmatch(r"\s*" + re.escape(a[0]) + r" [^=]*=\s*(search rules|omega arith)\s*", a[2])]
     keep = [a for a in answers if a not in trivial]
     aside = f"/tmp/answers/{crate}/{stem.replace('/', '.')}"
     os.makedirs(aside, exist_ok=True)
@@ -533,6 +596,8 @@ def answers_of(crate, fn, info, stem):
         with open(f"{aside}/{n}", "w") as f:
             f.write("\n".join(c + [f"pub {n} : goal.{n}", t.strip("\n"), ""]))
     if keep or stay:
+        loop_args = " ".join(f"goal.the-invariant-{new} goal.the-decreases-{new}" for new, _, _ in loops.values())
+        stay = [f"abbrev {a} : Type 0\n{a} = lts.{o} tie.the-claims reads.Pre reads.Post{' ' + loop_args if loop_args else ''} tie.handed_clauses" for a, o in places_said.items()] + stay
         body = "\n\n".join(stay + ["\n".join(c + [f"pub {n} : goal.{n}", t.strip("\n")]) for n, c, t in keep])
         own = [n for b in moved for n in (names_in(b)[:1] if re.match(r"(pub |abbrev )*record ", head_of(b)) else names_in(b))]
         used = [n for n in dict.fromkeys(own) if n in tokens(body)]
@@ -541,6 +606,8 @@ def answers_of(crate, fn, info, stem):
             lines.append(f"use {base}.Invariants.{{{', '.join(used)}}}")
         if "lts." in body:
             lines.append(f"use {base}.Lts as lts")
+        if "tie.the-claims" in body:
+            lines += [f"use {base}.Tie as tie", f"use {base}.Reads as reads"]
         files["Answers.antt"] = "\n".join(head + lines + [f"use {base}.Goals as goal", "", body, ""])
     if head and "Answers.antt" not in files and "Invariants.antt" in files:
         files["Invariants.antt"] = "\n".join(head) + "\n" + files["Invariants.antt"]

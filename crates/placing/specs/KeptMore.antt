@@ -1,7 +1,7 @@
 -- One turn: the next task is placed, and what is kept has its row.
 use Rattle.std.specs.Prelude.{ℕ, ◌+◌, ◌≤◌, ◌<◌, max, ◌≡◌, refl, List, ◌∷◌, ltb, eqb}
 use Rattle.std.proofs.Common.{sym, ◌∙◌, add-one, ⊎_elim, eqb-true}
-use Rattle.std.proofs.Math.Path.{ap}
+use Rattle.std.proofs.Math.Path.{ap, subst}
 use native.Mathlib.Omega.{arith}
 use Rattle.rules.specs.Workflow.{Workflow}
 use Rattle.rules.specs.Cycle.{Leads}
@@ -111,5 +111,9 @@ module _ {M : Method} (among : ChoosesAmong M) {W : Workflow} (range : InRange W
       {begins held : List ℕ} {after : Processors} → ((i : ℕ) → Leads W i i → ⊥) → BeginsFrom W 0 begins
       → held ≡ released W (at begins i) (at begins (i + 1)) i state.held → after ≡ with_taken_up (meant_row r) state.processors
       → Kept W (place M W (k + 1)) (k + 1) (with_row state i (meant_row r) to_come held after)
-  kept_more acyclic begins_are held_is after_is =
-      rw (placed_more, held_is, after_is, row_is) (kept_on range acyclic begins_are kept more next to_come_is (takes among range (place M W k) i))
+  kept_more {begins = begins} acyclic begins_are held_is after_is =
+      let in_row = λ (row : Row).
+      Kept W (record { task = i; row = row_on W (place M W k) i taken } ∷ place M W k) (k + 1)
+      (with_row state i row to_come (released W (at begins i) (at begins (i + 1)) i state.held) (with_taken_up row state.processors)) in
+      rw (placed_more, held_is, after_is)
+      (subst in_row (sym row_is) (kept_on range acyclic begins_are kept more next to_come_is (takes among range (place M W k) i)))

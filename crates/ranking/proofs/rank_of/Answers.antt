@@ -103,7 +103,7 @@ pub overflow_add-result-2 : goal.overflow_add-result-2
 overflow_add-result-2 c = omega (arith, c.loop-e.invariant.at_most, c.all_minutes.ensures.1)
 
 pub overflow_add-result : goal.overflow_add-result
-overflow_add-result c = omega (arith, add-result-2 c)
+overflow_add-result c = omega (arith, overflow_add-result-2 c)
 
 pub returns : goal.returns
 unfolding workflow

@@ -1,7 +1,11 @@
 -- Fewer are left, or nothing has changed and every task passed is held up.
 use mathlib.Core.Path.{◌≡◌}
 use Prim.Native.Nat.{ℕ, ◌+◌, ◌-◌, ◌≤◌}
+use mathlib.Core.List.{List}
 use Rattle.rules.specs.Workflow.{workflow}
+use Rattle.reader.specs.declared.View.{View}
+use Rattle.reader.specs.Meaning.{ViewOf}
+use Rattle.successors.specs.Begins.{BeginsFrom}
 use Rattle.good.specs.Ranges.{InRange}
 use Rattle.lookup.specs.Lookup.{workflow_of}
 use Rattle.lookup.specs.Views.{view_in_range}
@@ -11,9 +15,16 @@ use Rattle.ranking.specs.RankedLaws.{held_up_from}
 use native.Mathlib.Omega.{arith}
 use Rattle.ranking.proofs.rank_pass.Goals as goal
 
-begin_within : (c : tie.Start invariant-loop decreases-loop) (task : ℕ) → task ≤ c.args.v.tasks → at c.args.begins.now task ≤ 512
+-- Each task's edges begin within those of the request, which are few.
+begin_within :
+    (s : List ℕ) (v : View) (begins : List ℕ)
+    → ViewOf s v
+    → BeginsFrom (workflow_of s v) 0 begins
+    → (task : ℕ)
+    → task ≤ v.tasks
+    → at begins task ≤ 512
 unfolding workflow
-begin_within c task l = omega (arith, (c.requires.1.0.begin task (omega arith) l).within, (in_range c).edges_in)
+begin_within s v begins of from task l = omega (arith, (from.begin task (omega arith) l).within, (view_in_range _ _ of).edges_in)
 
 pub loop-task-init : goal.loop-task-init
 unfolding workflow
@@ -21,27 +32,27 @@ loop-task-init c = (omega arith, turned_none c.requires.ranked_so_far (λ i l be
 
 pub offset_bounds-begins-task : goal.offset_bounds-begins-task
 unfolding workflow
-offset_bounds-begins-task c = omega (arith, (let it : InRange (workflow_of c.args.s.now c.args.v) = view_in_range c.args.s.now c.args.v c.requires.view_of in it).tasks_in)
+offset_bounds-begins-task c = omega (arith, (view_in_range c.args.s.now c.args.v c.requires.view_of).tasks_in)
 
 pub bounds-begins-task : goal.bounds-begins-task
 unfolding workflow
-bounds-begins-task c = omega (arith, (let it : InRange (workflow_of c.args.s.now c.args.v) = view_in_range c.args.s.now c.args.v c.requires.view_of in it).tasks_in)
+bounds-begins-task c = omega (arith, (view_in_range c.args.s.now c.args.v c.requires.view_of).tasks_in)
 
 pub overflow_cast-end : goal.overflow_cast-end
 unfolding workflow
-overflow_cast-end c = omega (arith, begin_within c c.loop-task.task (omega arith))
+overflow_cast-end c = omega (arith, begin_within _ _ _ c.requires.view_of c.requires.begins_from c.loop-task.task (omega arith))
 
 pub offset_bounds-begins-task-in-loop-task : goal.offset_bounds-begins-task-in-loop-task
 unfolding workflow
-offset_bounds-begins-task-in-loop-task c = omega (arith, (let it : InRange (workflow_of c.args.s.now c.args.v) = view_in_range c.args.s.now c.args.v c.requires.view_of in it).tasks_in)
+offset_bounds-begins-task-in-loop-task c = omega (arith, (view_in_range c.args.s.now c.args.v c.requires.view_of).tasks_in)
 
 pub bounds-begins-task-in-loop-task : goal.bounds-begins-task-in-loop-task
 unfolding workflow
-bounds-begins-task-in-loop-task c = omega (arith, (let it : InRange (workflow_of c.args.s.now c.args.v) = view_in_range c.args.s.now c.args.v c.requires.view_of in it).tasks_in)
+bounds-begins-task-in-loop-task c = omega (arith, (view_in_range c.args.s.now c.args.v c.requires.view_of).tasks_in)
 
 pub overflow_cast-begin : goal.overflow_cast-begin
 unfolding workflow
-overflow_cast-begin c = omega (arith, begin_within c (c.loop-task.task - 1) (omega arith))
+overflow_cast-begin c = omega (arith, begin_within _ _ _ c.requires.view_of c.requires.begins_from (c.loop-task.task - 1) (omega arith))
 
 pub rank_task-now_left-requires : goal.rank_task-now_left-requires
 unfolding workflow

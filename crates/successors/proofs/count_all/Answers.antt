@@ -12,15 +12,15 @@ use Rattle.successors.proofs.count_all.Goals as goal
 
 in_array : (c : goal.After-to-to) → c.to-to.result < 64
 unfolding workflow
-in_array c = omega (arith, c.to-to.ensures.1, (let it : InRange (workflow_of c.args.s.now c.args.v) = view_in_range c.args.s.now c.args.v c.requires.view_of in it).tasks_in)
+in_array c = omega (arith, c.to-to.ensures.1, (view_in_range c.args.s.now c.args.v c.requires.view_of).tasks_in)
 
 in_array_2 : (c : goal.After-way_told-1) → c.to-to.result < 64
 unfolding workflow
-in_array_2 c = omega (arith, c.to-to.ensures.1, (let it : InRange (workflow_of c.args.s.now c.args.v) = view_in_range c.args.s.now c.args.v c.requires.view_of in it).tasks_in)
+in_array_2 c = omega (arith, c.to-to.ensures.1, (view_in_range c.args.s.now c.args.v c.requires.view_of).tasks_in)
 
 in_array_3 : (c : goal.After-held-1) → c.to-to.result < 64
 unfolding workflow
-in_array_3 c = omega (arith, c.to-to.ensures.1, (let it : InRange (workflow_of c.args.s.now c.args.v) = view_in_range c.args.s.now c.args.v c.requires.view_of in it).tasks_in)
+in_array_3 c = omega (arith, c.to-to.ensures.1, (view_in_range c.args.s.now c.args.v c.requires.view_of).tasks_in)
 
 pub loop-e-init : goal.loop-e-init
 loop-e-init c = (omega arith, rw c.requires.held_value (counted_none _))
@@ -38,7 +38,7 @@ overflow_add-held c =
     omega (
       arith,
       counted_most _ loop.e loop.held loop.invariant.1 c.to-to.result,
-      (let it : InRange (workflow_of c.args.s.now c.args.v) = view_in_range c.args.s.now c.args.v c.requires.view_of in it).edges_in,
+      (view_in_range c.args.s.now c.args.v c.requires.view_of).edges_in,
     )
 
 pub offset_bounds-held-to-in-loop-e : goal.offset_bounds-held-to-in-loop-e

@@ -13,15 +13,15 @@ use Rattle.successors.proofs.release.Goals as goal
 
 task_below : (c : goal.After-shared_slice_known-1) → c.args.task < 64
 unfolding workflow
-task_below c = omega (arith, (let it : InRange (workflow_of c.args.s.now c.args.v) = view_in_range c.args.s.now c.args.v c.requires.view_of in it).tasks_in, c.requires.task_lt_tasks)
+task_below c = omega (arith, (view_in_range c.args.s.now c.args.v c.requires.view_of).tasks_in, c.requires.task_lt_tasks)
 
 task_below_2 : (c : goal.After-way_told-1) → c.args.task < 64
 unfolding workflow
-task_below_2 c = omega (arith, (let it : InRange (workflow_of c.args.s.now c.args.v) = view_in_range c.args.s.now c.args.v c.requires.view_of in it).tasks_in, c.requires.task_lt_tasks)
+task_below_2 c = omega (arith, (view_in_range c.args.s.now c.args.v c.requires.view_of).tasks_in, c.requires.task_lt_tasks)
 
 task_below_3 : (c : goal.After-way_told-2-1) → c.args.task < 64
 unfolding workflow
-task_below_3 c = omega (arith, (let it : InRange (workflow_of c.args.s.now c.args.v) = view_in_range c.args.s.now c.args.v c.requires.view_of in it).tasks_in, c.requires.task_lt_tasks)
+task_below_3 c = omega (arith, (view_in_range c.args.s.now c.args.v c.requires.view_of).tasks_in, c.requires.task_lt_tasks)
 
 end_within : (c : goal.After-end-1) → get_or c.args.begins.now (c.args.task + 1) 0 ≤ c.args.v.edges
 unfolding workflow
@@ -29,11 +29,11 @@ end_within c = (c.requires.begins_from.begin (c.args.task + 1) (omega arith) (om
 
 task_below_4 : (c : goal.After-end-1) → c.args.task < 64
 unfolding workflow
-task_below_4 c = omega (arith, (let it : InRange (workflow_of c.args.s.now c.args.v) = view_in_range c.args.s.now c.args.v c.requires.view_of in it).tasks_in, c.requires.task_lt_tasks)
+task_below_4 c = omega (arith, (view_in_range c.args.s.now c.args.v c.requires.view_of).tasks_in, c.requires.task_lt_tasks)
 
 begin_within : (c : goal.After-e-1) → get_or c.args.begins.now c.args.task 0 ≤ 512
 unfolding workflow
-begin_within c = omega (arith, (c.requires.begins_from.begin c.args.task (omega arith) (omega (arith, c.requires.task_lt_tasks))).within, (let it : InRange (workflow_of c.args.s.now c.args.v) = view_in_range c.args.s.now c.args.v c.requires.view_of in it).edges_in)
+begin_within c = omega (arith, (c.requires.begins_from.begin c.args.task (omega arith) (omega (arith, c.requires.task_lt_tasks))).within, (view_in_range c.args.s.now c.args.v c.requires.view_of).edges_in)
 
 end_within_2 : (c : goal.In-loop-e) → get_or c.args.begins.now (c.args.task + 1) 0 ≤ c.args.v.edges
 unfolding workflow
@@ -41,15 +41,15 @@ end_within_2 c = (c.requires.begins_from.begin (c.args.task + 1) (omega arith) (
 
 in_array : (c : goal.After-to-to) → c.to-to.result < 64
 unfolding workflow
-in_array c = omega (arith, c.to-to.ensures.1, (let it : InRange (workflow_of c.args.s.now c.args.v) = view_in_range c.args.s.now c.args.v c.requires.view_of in it).tasks_in)
+in_array c = omega (arith, c.to-to.ensures.1, (view_in_range c.args.s.now c.args.v c.requires.view_of).tasks_in)
 
 in_array_2 : (c : goal.After-way_told-in-loop-e-1) → c.to-to.result < 64
 unfolding workflow
-in_array_2 c = omega (arith, c.to-to.ensures.1, (let it : InRange (workflow_of c.args.s.now c.args.v) = view_in_range c.args.s.now c.args.v c.requires.view_of in it).tasks_in)
+in_array_2 c = omega (arith, c.to-to.ensures.1, (view_in_range c.args.s.now c.args.v c.requires.view_of).tasks_in)
 
 in_array_3 : (c : goal.After-less) → c.to-to.result < 64
 unfolding workflow
-in_array_3 c = omega (arith, c.to-to.ensures.1, (let it : InRange (workflow_of c.args.s.now c.args.v) = view_in_range c.args.s.now c.args.v c.requires.view_of in it).tasks_in)
+in_array_3 c = omega (arith, c.to-to.ensures.1, (view_in_range c.args.s.now c.args.v c.requires.view_of).tasks_in)
 
 end_within_3 : (c : goal.After-less) → get_or c.args.begins.now (c.args.task + 1) 0 ≤ c.args.v.edges
 unfolding workflow
@@ -72,7 +72,7 @@ bounds-begins-task c = omega (arith, task_below_3 c)
 
 pub overflow_cast-end : goal.overflow_cast-end
 unfolding workflow
-overflow_cast-end c = omega (arith, end_within c, (let it : InRange (workflow_of c.args.s.now c.args.v) = view_in_range c.args.s.now c.args.v c.requires.view_of in it).edges_in)
+overflow_cast-end c = omega (arith, end_within c, (view_in_range c.args.s.now c.args.v c.requires.view_of).edges_in)
 
 pub offset_bounds-begins-task-2 : goal.offset_bounds-begins-task-2
 offset_bounds-begins-task-2 c = omega (arith, task_below_4 c)
@@ -110,7 +110,7 @@ bounds-held-to-in-loop-e c = in_array_3 c
 pub overflow_add-e : goal.overflow_add-e
 unfolding workflow
 overflow_add-e c =
-    omega (arith, c.loop-e-test.true, end_within_3 c, (let it : InRange (workflow_of c.args.s.now c.args.v) = view_in_range c.args.s.now c.args.v c.requires.view_of in it).edges_in)
+    omega (arith, c.loop-e-test.true, end_within_3 c, (view_in_range c.args.s.now c.args.v c.requires.view_of).edges_in)
 
 pub loop-e-preserved : goal.loop-e-preserved
 loop-e-preserved c =
