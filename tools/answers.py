@@ -370,7 +370,7 @@ def freed(term, params):
     return term
 
 
-def answers_of(crate, fn, info, stem):
+def answers_of(crate, fn, info, stem, names):
     folder = f"crates/{crate}/proofs/{stem}"
     path = f"{folder}/Proof.antt"
     text = open(path).read()
@@ -378,6 +378,10 @@ def answers_of(crate, fn, info, stem):
     needs = {}
     for old, new in info["needs"]:
         needs.setdefault(N(old), new)
+    goals_file = f"{os.path.dirname(names)}/goals/Rattle-{crate}-proofs/{stem}/Goals.antt"
+    goals = re.sub(r"\n\s+", " ", open(goals_file).read()) if os.path.exists(goals_file) else ""
+    viewed = lambda at: bool(re.search(r"(?m)^" + re.escape(at) + r" = View\.", goals)) if goals else True
+    handed = " tie.handed_clauses" if not goals or "Tie.handed_clauses" in goals else ""
     turn, place_of = path_turner(crate, stem.split("/")[-1], info, said)
     STEPS.clear()
     STEPS.update(N(step) for a in info["arms"] if a for _, step, fields in a[2] if fields)
@@ -527,7 +531,7 @@ def answers_of(crate, fn, info, stem):
 
         if LTS:
             top = shared(place)
-            body, more = inline(body, inlined, lambda n: top(n).replace(" c", " c@before", 1))
+            body, more = inline(body, inlined, lambda n: top(n).replace(" c", " c@before" if viewed(place) else " c", 1))
         else:
             body, more = inline(body, inlined, special)
         body = flat(body)
@@ -597,7 +601,7 @@ def answers_of(crate, fn, info, stem):
             f.write("\n".join(c + [f"pub {n} : goal.{n}", t.strip("\n"), ""]))
     if keep or stay:
         loop_args = " ".join(f"goal.the-invariant-{new} goal.the-decreases-{new}" for new, _, _ in loops.values())
-        stay = [f"abbrev {a} : Type 0\n{a} = lts.{o} tie.the-claims reads.Pre reads.Post{' ' + loop_args if loop_args else ''} tie.handed_clauses" for a, o in places_said.items()] + stay
+        stay = [f"abbrev {a} : Type 0\n{a} = lts.{o} tie.the-claims reads.Pre reads.Post{' ' + loop_args if loop_args else ''}{handed}" for a, o in places_said.items()] + stay
         body = "\n\n".join(stay + ["\n".join(c + [f"pub {n} : goal.{n}", t.strip("\n")]) for n, c, t in keep])
         own = [n for b in moved for n in (names_in(b)[:1] if re.match(r"(pub |abbrev )*record ", head_of(b)) else names_in(b))]
         used = [n for n in dict.fromkeys(own) if n in tokens(body)]
@@ -656,7 +660,7 @@ def main():
         if only and stem not in only:
             continue
         if os.path.exists(f"crates/{crate}/proofs/{stem}/Proof.antt"):
-            answers_of(crate, stem, info, stem)
+            answers_of(crate, stem, info, stem, names)
 
 
 if __name__ == "__main__":
