@@ -129,10 +129,17 @@ def path_turner(crate, fn, info, said):
         return byname[i] if i is not None else None
 
     def up(frm, to):
-        """How many steps back from one place to another."""
+        """How many steps back from one place to another. What an arm adds is one step, whatever the older form counted."""
         k, i = 0, byname.index(frm)
+        arm_of = lambda j: info["arms"][j][0] if info["arms"][j] else None
         while i is not None and byname[i] != to:
-            i = index.get(N(places[i][1])) if places[i][1] else None
+            p = index.get(N(places[i][1])) if places[i][1] else None
+            if p is not None and arm_of(p) and arm_of(p) != arm_of(i):
+                k += 1
+                arm = arm_of(p)
+                while p is not None and arm_of(p) == arm:
+                    p = index.get(N(places[p][1])) if places[p][1] else None
+            i = p
             k += 1
         return k if i is not None else None
 
@@ -170,16 +177,21 @@ def path_turner(crate, fn, info, said):
             if parts[0].startswith("loop") and len(parts) > 1 and parts[1] == "inv":
                 parts[1] = "invariant"
             k = N(parts[0])
+            k = k[:-4] if k not in table and k.endswith("-lem") else k
             fits = [f for s, f in arms if s == k and tuple(parts[1 : 1 + len(f)]) == f]
             if fits:
                 f = max(fits, key=len)
                 parts = list(arms[(k, f)]) + parts[1 + len(f) :]
             elif k in table:
                 parts[0] = table[k]
-                if len(parts) > 2 and parts[1] == "new" and parts[2].isdigit() and callee.get(k) and "::" in callee[k]:
-                    of = FUNCTIONS.get(tuple(callee[k].split("::")[-2:])) or FUNCTIONS.get((callee[k].split("::")[0], callee[k].split("::")[-1]))
-                    if of and int(parts[2]) < len(of[1]):
-                        parts[2] = of[1][int(parts[2])]
+                if len(parts) > 2 and parts[1] == "new" and parts[2].isdigit():
+                    # What an argument holds afterwards went by its number, in pairs.
+                    i, rest_ = 0, parts[2:]
+                    while rest_ and rest_[0] == "1":
+                        i, rest_ = i + 1, rest_[1:]
+                    of = info["params"].get(callee.get(k) or "")
+                    if rest_ and rest_[0] == "0" and of and i < len(of):
+                        parts[2:] = [of[i]] + rest_[1:]
                     else:
                         said.append("new " + m.group(0))
             elif parts[0] == "requires":
@@ -271,10 +283,12 @@ def flat(text):
         m = re.search(r"\blet (\S+) = c((?:\.before)*) in\b[ ]*\n?", text)
         if not m:
             for q in re.finditer(r"\blet (\S+) = (c(?:\.before)*\.([^\s.()]+)) in\b[ ]*\n?", text):
-                if N(q.group(3)) in STEPS:
+                if N(q.group(3)) in STEPS or re.search(r"(?<![\w.'′-])" + re.escape(q.group(1)) + r"\.new\.\d", text):
                     break
             else:
-                return text
+                q = re.search(r"\blet (\S+) = (c(?:\.before)*\.[^\s.()]+\.new(?:\.1)+) in\b[ ]*\n?", text)
+                if not q:
+                    return text
             text = text[: q.start()] + (re.sub(r"^\s*", "", text[q.end() :]) if text[: q.start()].endswith(" ") else text[q.end() :])
             text = re.sub(r"(?<![\w.'′-])" + re.escape(q.group(1)) + r"(?=[\s.,;()]|$)(?! =)", q.group(2), text)
             continue
@@ -316,6 +330,13 @@ def inline_of(block):
     return name, kind, type_, unfolds, body
 
 
+def by_arm(name, inlined):
+    """Whether a helper speaks of an arm, whose facts go by other names in the kit's own record of a place."""
+    _, type_, _, body = inlined[name]
+    text = type_ + body
+    return ".given" in text or any(re.search(r"(?<![\w.'′-])" + re.escape(n) + r" ", text) and by_arm(n, inlined) for n in inlined if n != name)
+
+
 def inline(text, inlined, special=None):
     """The text with each such helper written out where it is handed a place, and what has to be unfolded for that. A law that unfolds is kept, for that place."""
     unfolds = []
@@ -328,7 +349,7 @@ def inline(text, inlined, special=None):
                 return w.group(0)
             if kind == "place":
                 return "c"
-            if kind == "value" and LTS:
+            if kind == "value" and LTS and not by_arm(name, inlined):
                 if special is None:
                     return w.group(0)
                 return ("(" if w.group(0).startswith("(") else "") + special(name) + (")" if w.group(0).startswith("(") else "")
@@ -490,11 +511,13 @@ def answers_of(crate, fn, info, stem, names):
 
         def special(name):
             if (name, place) not in specials:
+                if inlined[name][0] == "value" and LTS:
+                    said.append("value " + name)
                 as_ = name if not any(n == name for n, _ in specials) else f"{name}_{1 + sum(n == name for n, _ in specials)}"
                 specials[(name, place)] = as_
                 kind, type_, unf, law = inlined[name]
-                type_, more1 = inline(type_, {k: v for k, v in inlined.items() if k != name}, special)
-                law, more2 = inline(law, {k: v for k, v in inlined.items() if k != name}, special)
+                type_, more1 = inline(type_, {k: v for k, v in inlined.items() if k != name}, choose)
+                law, more2 = inline(law, {k: v for k, v in inlined.items() if k != name}, choose)
                 unf = list(dict.fromkeys(unf + more1 + more2))
                 arrow = " " if type_.startswith("§") else " → "
                 type_ = type_.lstrip("§")
@@ -529,9 +552,13 @@ def answers_of(crate, fn, info, stem, names):
 
             return f
 
+        def choose(name):
+            if not LTS or by_arm(name, inlined):
+                return special(name)
+            return shared(place)(name).replace(" c", " c@before" if viewed(place) else " c", 1)
+
         if LTS:
-            top = shared(place)
-            body, more = inline(body, inlined, lambda n: top(n).replace(" c", " c@before" if viewed(place) else " c", 1))
+            body, more = inline(body, inlined, choose)
         else:
             body, more = inline(body, inlined, special)
         body = flat(body)
