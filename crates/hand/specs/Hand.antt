@@ -8,7 +8,7 @@ use Rattle.rules.specs.Method.{Question, Method}
 use Rattle.hand.specs.declared.Row.{Row}
 
 module _ (W : Workflow) (ready : ℕ → ℕ) (busy : ℕ → List Interval) (i : ℕ) where
-  -- Start and finish of task i on processor j: document 01's, as in `start_of_lem` and `finish_of` of the rules.
+  -- Start and finish of task i on processor j: document 01's, as in `start_of` and `finish_of` of the rules.
   unfoldable pub start_by : ℕ → ℕ
   start_by j = start_on (busy j) (ready j) (W.minutes i j)
 

@@ -33,8 +33,8 @@ planned : (c : At-After-rows_of-n) → PlanOf (outcome-due c) (plan-of c)
 unfolding rows_lent
 planned c = rw c.shortest-lent.ensures at c.plan_columns-answer.ensures
 
-in_reach : (c : At-After-rows_of-n) → c.rows_of_lem.result ≤ min (rows_lent (lent c)) 64
-in_reach c = rw c.rows_of_lem.ensures (rows_in_reach _ _ _ (plan-of c).answer (planned c).answer_is)
+in_reach : (c : At-After-rows_of-n) → c.rows_of-n.result ≤ min (rows_lent (lent c)) 64
+in_reach c = rw c.rows_of-n.ensures (rows_in_reach _ _ _ (plan-of c).answer (planned c).answer_is)
 
 pub plan_columns-answer-requires : goal.plan_columns-answer-requires
 plan_columns-answer-requires c = columns_first
@@ -63,7 +63,7 @@ returns c =
     let answer = (plan-of c.before.before.before.before.before.before.before.before.before.before.before.before.before.before.before.before.before.before.before.before.before).answer in
     let is = (planned c.before.before.before.before.before.before.before.before.before.before.before.before.before.before.before.before.before.before.before.before.before).answer_is in
     let columns = (planned c.before.before.before.before.before.before.before.before.before.before.before.before.before.before.before.before.before.before.before.before.before).columns in
-    let count = c.rows_of_lem.ensures in
+    let count = c.rows_of-n.ensures in
     let processors = column_stored (λ row. row.processor) b.processors o answer is count columns.processors_hold c.store.ensures in
     let starts = column_stored (λ row. row.start) b.starts o answer is count columns.starts_hold c.store-2.ensures in
     let finishes = column_stored (λ row. row.finish) b.finishes o answer is count columns.finishes_hold c.store-3.ensures in

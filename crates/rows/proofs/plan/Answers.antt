@@ -32,7 +32,6 @@ use denote.Signature.{plain}
 use denote.Steps.{owned, nothing}
 use denote.Struct.Laws as struct
 use denote.Enum.Laws as enum
-use denote.Triple.Statement.{Contract, Triple}
 use denote.Triple.Entry.{on_entry}
 use denote.Triple.Spec.{Meets, triple_of}
 use denote.Triple.Table.{entered, cited}
@@ -76,9 +75,9 @@ use Rattle.rows.proofs.answer_of.Symbol.{name as #told}
 use Rattle.rows.proofs.answer_of.Met as told-thm
 use Rattle.rows.specs.contracts.plan as this
 use Rattle.rows.specs.contracts.plan.Key.{name as #plan}
-use Rattle.rows.proofs.plan.Statement as stated
 use Rattle.rows.proofs.plan.Code as code
 use Rattle.rows.proofs.plan.Code.Mir as text
+use Rattle.rows.proofs.plan.Goals as goal
 
 abbrev stayed : Stays (this.ended).signature.params (this.ended).kept
 stayed = (

@@ -43,7 +43,6 @@ use denote.Index.{row, place_is, elem_out, elem_put, opens_slice, closes_slice}
 use denote.Signature.{plain}
 use denote.Steps.{owned, nothing}
 use denote.Struct.Laws as struct
-use denote.Triple.Statement.{Contract, Triple}
 use denote.Triple.Entry.{on_entry}
 use denote.Triple.Spec.{Meets, triple_of}
 use denote.Triple.Table.{entered, cited}
@@ -66,9 +65,9 @@ use Rattle.rows.proofs.row_of.Symbol.{name as #row-of}
 use Rattle.rows.proofs.row_of.Met as row-of-thm
 use Rattle.rows.specs.contracts.store as this
 use Rattle.rows.specs.contracts.store.Key.{name as #store}
-use Rattle.rows.proofs.store.Statement as stated
 use Rattle.rows.proofs.store.Code as code
 use Rattle.rows.proofs.store.Code.Mir as text
+use Rattle.rows.proofs.store.Goals as goal
 
 abbrev stayed : Stays (this.ended).signature.params (this.ended).kept
 stayed = (stay_slice (0 ∷ []) tt (plain (λ _. row_type.the_row)), (stay_none (λ _. usize) yes, (stay_none (λ _. planning.the_row) yes, tt)))

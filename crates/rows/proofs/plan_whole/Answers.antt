@@ -36,7 +36,6 @@ use denote.Signature.{plain, shr_slice_of}
 use denote.Steps.{owned, nothing, facts}
 use denote.Struct.Laws as struct
 use denote.Enum.Laws as enum
-use denote.Triple.Statement.{Contract, Triple}
 use denote.Triple.Entry.{on_entry}
 use denote.Triple.Spec.{Meets, triple_of}
 use denote.Triple.Table.{entered, cited}
@@ -73,9 +72,9 @@ use Rattle.rows.proofs.whole.Symbol.{name as #whole}
 use Rattle.rows.proofs.whole.Met as whole-of-thm
 use Rattle.rows.specs.contracts.plan_whole as this
 use Rattle.rows.specs.contracts.plan_whole.Key.{name as #plan-whole}
-use Rattle.rows.proofs.plan_whole.Statement as stated
 use Rattle.rows.proofs.plan_whole.Code as code
 use Rattle.rows.proofs.plan_whole.Code.Mir as text
+use Rattle.rows.proofs.plan_whole.Goals as goal
 
 abbrev stayed : Stays (this.ended).signature.params (this.ended).kept
 stayed = (
