@@ -184,7 +184,7 @@ def path_turner(crate, fn, info, said):
                 parts = list(arms[(k, f)]) + parts[1 + len(f) :]
             elif k in table:
                 parts[0] = table[k]
-                if len(parts) > 2 and parts[1] == "new" and parts[2].isdigit():
+                if len(parts) > 2 and parts[1] in ("new", "auto") and parts[2].isdigit():
                     # What an argument holds afterwards went by its number, in pairs.
                     i, rest_ = 0, parts[2:]
                     while rest_ and rest_[0] == "1":
@@ -286,7 +286,7 @@ def flat(text):
                 if N(q.group(3)) in STEPS or re.search(r"(?<![\w.'′-])" + re.escape(q.group(1)) + r"\.new\.\d", text):
                     break
             else:
-                q = re.search(r"\blet (\S+) = (c(?:\.before)*\.[^\s.()]+\.new(?:\.1)+) in\b[ ]*\n?", text)
+                q = re.search(r"\blet (\S+) = (c(?:\.before)*\.[^\s.()]+\.(?:new(?:\.1)+|given(?:\.\d)+)) in\b[ ]*\n?", text)
                 if not q:
                     return text
             text = text[: q.start()] + (re.sub(r"^\s*", "", text[q.end() :]) if text[: q.start()].endswith(" ") else text[q.end() :])
