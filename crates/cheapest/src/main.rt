@@ -2,12 +2,13 @@
 #![tactic(auto)]
 
 use choosing::Method;
-use libc::{STDIN_FILENO, STDOUT_FILENO};
+use std::io;
+use std::io::Write;
 
-fn main() {
+fn main(rt: HostRuntime) -> io::Result<()> {
     let mut request = [0u8; 16384];
-    let read = io::read_full(STDIN_FILENO, &mut request);
+    let read = programs::read_full(&mut rt.stdin(), &mut request)?;
     let mut out = [0u8; 2304];
     let length = programs::plan_text(&request[..read], Method::Cheapest, &mut out);
-    io::write_all(STDOUT_FILENO, &out[..length]);
+    rt.stdout().write_all(&out[..length])
 }

@@ -1,12 +1,13 @@
 // The program: reads a request, prints what its cheapest plan and its HEFT plan cost, and writes that in one piece. "reads at most 16,384 bytes from standard input".
 #![tactic(auto)]
 
-use libc::{STDIN_FILENO, STDOUT_FILENO};
+use std::io;
+use std::io::Write;
 
-fn main() {
+fn main(rt: HostRuntime) -> io::Result<()> {
     let mut request = [0u8; 16384];
-    let read = io::read_full(STDIN_FILENO, &mut request);
+    let read = programs::read_full(&mut rt.stdin(), &mut request)?;
     let mut out = [0u8; 2304];
     let length = programs::range_text(&request[..read], &mut out);
-    io::write_all(STDOUT_FILENO, &out[..length]);
+    rt.stdout().write_all(&out[..length])
 }

@@ -1,0 +1,6 @@
+-- What was printed lies inside the buffer.
+use Rattle.programs.specs.Told.{text_in}
+use Rattle.programs.proofs.plan_text.Goals as goal
+
+pub returns : goal.returns
+returns c = text_in c.print-printed.ensures c.bytes_of.ensures
