@@ -2,21 +2,33 @@
 // An argument that is missing, or has more than 32 bytes, counts as 0. "reads at most 16,384 bytes from standard input".
 #![tactic(auto)]
 
-use libc::{STDIN_FILENO, STDOUT_FILENO};
+use std::io::Write;
+use std::{env, io};
 
-fn main() {
-    let mut task = [0u8; 32];
-    let task_length = os::arg(1, &mut task);
-    let mut start = [0u8; 32];
-    let start_length = os::arg(2, &mut start);
+// The bytes of an argument that is there and has at most 32 of them; else none.
+fn bytes_of(argument: &Option<String>) -> &[u8] {
+    match argument {
+        Some(word) => {
+            let bytes = word.as_bytes();
+            if bytes.len() <= 32 { bytes } else { &[] }
+        }
+        None => &[],
+    }
+}
+
+fn main(rt: HostRuntime) -> io::Result<()> {
+    let mut arguments = env::args(&rt)?;
+    arguments.next();
+    let task = arguments.next();
+    let start = arguments.next();
     let mut request = [0u8; 16384];
-    let read = io::read_full(STDIN_FILENO, &mut request);
+    let read = programs::read_full(&mut rt.stdin(), &mut request)?;
     let mut out = [0u8; 192];
     let length = programs::why_text(
         &request[..read],
-        &task[..task_length],
-        &start[..start_length],
+        bytes_of(&task),
+        bytes_of(&start),
         &mut out,
     );
-    io::write_all(STDOUT_FILENO, &out[..length]);
+    rt.stdout().write_all(&out[..length])
 }
