@@ -13,7 +13,7 @@ fn main() {
     if !archive.is_file() {
         let archive = archive.display();
         fail(&format!(
-            "{archive} is not there: run `rt staticlib exports` in the repository's root first"
+            "{archive} is not there: run `rust/archive` first"
         ));
     }
     let include = root.join("include");

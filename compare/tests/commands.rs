@@ -140,10 +140,15 @@ fn stand_in(name: &str) -> (PathBuf, PathBuf, String) {
     }
     link(&tools, &["bash", "dirname", "find", "mkdir", "touch", "cat", "chmod"]);
     script(&tools.join("uname"), "echo x86_64");
-    let built = r#"mkdir -p target/bin
-printf '#!/usr/bin/env bash\necho "%s" "$@"\ncat\n' "$2" >target/bin/"$2"
-chmod +x target/bin/"$2""#;
-    script(&tools.join("rt"), &format!("[ \"$1\" = check ] || exit 1\n{built}"));
+    for program in ["plan", "cheapest", "heft", "range", "by_processor", "why"] {
+        fs::create_dir(root.join("crates").join(program)).expect("a folder");
+    }
+    // It is called in the program's folder.
+    let built = r#"name=${PWD##*/}
+mkdir -p out
+printf '#!/usr/bin/env bash\necho "%s" "$@"\ncat\n' "$name" >out/"$name"
+chmod +x out/"$name""#;
+    script(&tools.join("rt"), &format!("[ \"$1\" = run ] || exit 1\n{built}"));
     let request = root.join("a request");
     fs::write(&request, "bytes").expect("a file");
     (root, tools, request.to_str().expect("a path in UTF-8").to_string())
@@ -206,7 +211,7 @@ fn what_why_asks_and_says() {
         assert_eq!(said("5", number), answer(&format!("5 {handed_on}")));
     }
     // A task that there is not; and a program that does not end well.
-    let program = root.join("target/bin/why");
+    let program = root.join("crates/why/out/why");
     script(&program, "echo none 3\necho There is no such task.");
     let error = "why: there is no task 7: the request has 3, numbered from 0\n";
     assert_eq!(said("7", "0"), (Some(2), String::new(), error.to_string()));

@@ -65,9 +65,9 @@ impl Asked {
     fn name(self) -> &'static str {
         match self {
             Asked::Plan => "text",
-            Asked::Cheapest => "text-asked by-cheapest",
-            Asked::Heft => "text-asked by-HEFT",
-            Asked::Range => "range-text",
+            Asked::Cheapest => "text_asked by_cheapest",
+            Asked::Heft => "text_asked by_HEFT",
+            Asked::Range => "range_text",
         }
     }
 
@@ -82,19 +82,18 @@ impl Asked {
 }
 
 fn main() {
-    println!("use mathlib.Core.Path.{{_≡_, refl}}");
-    println!("use mathlib.Core.List.{{[], _∷_}}");
-    println!("use Rattle·rules·specs.specs.Method.{{by-cheapest, by-HEFT}}");
-    println!("use Rattle·rules·specs.specs.Text.{{bytes, text, text-asked}}");
-    println!("use Rattle·rules·specs.specs.Range.{{range-text}}");
-    println!("use Rattle·rules·specs.specs.Cases.{{given}}");
+    println!("use Rattle.std.specs.Prelude.{{◌≡◌, refl, [], ◌∷◌}}");
+    println!("use Rattle.rules.specs.Method.{{by_cheapest, by_HEFT}}");
+    println!("use Rattle.rules.specs.Text.{{bytes, text, text_asked}}");
+    println!("use Rattle.rules.specs.Range.{{range_text}}");
+    println!("use Rattle.rules.specs.Cases.{{given}}");
     for (case, (asked, request)) in cases().iter().enumerate() {
         let answer = String::from_utf8(asked.answer(request)).expect("a printed plan is ASCII");
         let list: String = request.iter().map(|byte| format!("{byte} ∷ ")).collect();
         println!();
-        println!("case-{case} : {} ({list}[]) ≡ bytes {answer:?}", asked.name());
+        println!("case_{case} : {} ({list}[]) ≡ bytes {answer:?}", asked.name());
         println!("unfolding given");
-        println!("case-{case} = refl");
+        println!("case_{case} = refl");
     }
 }
 
