@@ -1,7 +1,7 @@
 // What the programs write: a text in a lent buffer, and how many bytes of it.
 #![tactic(auto)]
 
-ghost use Rattle.std.specs.Prelude.{◌≡◌, ◌-◌, ◌≤◌, IfOk};
+ghost use Rattle.std.specs.Prelude.{◌≡◌, ◌-◌, ◌≤◌};
 ghost use Rattle.io.specs.Counts.{IsPrefixLen};
 ghost use Rattle.rules.specs.Text.{text_asked};
 ghost use Rattle.rules.specs.Range.{range_text};
@@ -11,22 +11,22 @@ ghost use Rattle.programs.specs.Spelled.{number_of};
 ghost use Rattle.programs.specs.Told.{to_write, TextIn};
 
 use choosing::Method;
-use std::io::{self, Read};
+use std::io::Read;
 use text::Printed;
 
-// Reads until the buffer is full or the input ends. Answers how many bytes came.
-pub fn read_full<R: Read>(from: &mut R, into: &mut [u8]) -> io::Result<usize>
-    ensures { IfOk result (λ n. IsPrefixLen n into.new) }
+// Reads until the buffer is full, or the input ends or cannot be read. Answers how many bytes came.
+pub fn read_full<R: Read>(from: &mut R, into: &mut [u8]) -> usize
+    ensures { IsPrefixLen result into.new }
 {
     let mut done = 0;
     while done < into.len() {
-        let n = from.read(&mut into[done..])?;
+        let n = from.read(&mut into[done..]).unwrap_or(0);
         if n == 0 {
             break;
         }
         done += n;
     }
-    Ok(done)
+    done
 }
 
 // The bytes of a text that was printed; none where there was no room.
