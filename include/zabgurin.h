@@ -1,22 +1,22 @@
 /* Zabgurin: plans for workflows on rented machines. A request is bytes, as docs/HELP.md describes them; the answer is a plan, a machine and a start for
    every task, or one numbered refusal and its place.
 
-   The library is for x86-64 Linux. Link target/staticlib/libexports.a, which `rt staticlib exports` builds. It allocates nothing, keeps nothing between
+   The library is for x86-64 Linux. Link target/staticlib/libexports.a, which `rust/archive` builds. It allocates nothing, keeps nothing between
    calls and calls nothing but memcpy and memset; any thread may call any function at any time. No function of it calls itself. A call takes at most so much
    stack, from its return address down; the arguments that stand in the caller's frame are not counted. That is added up from the compiled frames and measured,
    not proved, and holds for the library as this version of the kit compiles it:
 
-    zabgurin_print           11,096 bytes
-    zabgurin_print_cheapest  11,096 bytes
-    zabgurin_print_heft      11,096 bytes
-    zabgurin_why              8,872 bytes
-    zabgurin_plan             8,824 bytes
-    zabgurin_cheapest         8,824 bytes
-    zabgurin_heft             8,824 bytes
-    zabgurin_range            8,808 bytes
-    zabgurin_label              632 bytes
-    zabgurin_read               584 bytes
-    zabgurin_label_len           40 bytes
+    zabgurin_print           11,272 bytes
+    zabgurin_print_cheapest  11,272 bytes
+    zabgurin_print_heft      11,272 bytes
+    zabgurin_why              9,080 bytes
+    zabgurin_plan             9,048 bytes
+    zabgurin_cheapest         9,048 bytes
+    zabgurin_heft             9,048 bytes
+    zabgurin_range            9,032 bytes
+    zabgurin_label              520 bytes
+    zabgurin_read               488 bytes
+    zabgurin_label_len            8 bytes
     zabgurin_listed               8 bytes
 
    The return address of memcpy and memset is in it; what they take besides is the C library's, and those that were tried take nothing. In a program that looks
