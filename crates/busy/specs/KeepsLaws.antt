@@ -1,4 +1,4 @@
--- What is kept of the processors: at first nothing, then one interval more; and it all ends when what they are busy with does.
+-- What is kept of the processors: one interval more; and it all ends when what they are busy with does.
 use Rattle.std.specs.Prelude.{ℕ, ◌+◌, ◌≤◌, ◌<◌, ◌≡◌, Bool, eqb, replicate}
 use Rattle.std.proofs.Math.Path.{refl}
 use Rattle.std.proofs.Common.{◌∙◌, arith, ltb-true, ltb-false}
@@ -10,12 +10,9 @@ use Rattle.laws.specs.SameStart.{SameStart, same_start_more, same_start_none, sa
 use Rattle.laws.specs.Stores.{at}
 use Rattle.busy.specs.declared.Processors.{Processors}
 use Rattle.busy.specs.Kept.{room_most, kept_by, InOrder, Keeps, EndBy}
-use Rattle.busy.specs.KeptLaws.{kept_has_minutes, none_in_order, none_busy}
+use Rattle.busy.specs.KeptLaws.{kept_has_minutes}
 use Rattle.busy.specs.Put.{WithInterval, with_interval, put_there, put_in}
 use Rattle.busy.specs.PutLaws.{put_all, put_in_order, put_busy}
-
-pub keeps_none : Keeps (λ j. []) 0 (record { begins = replicate 128 0; ends = replicate 128 0; first = replicate 17 0 })
-keeps_none = record { in_order = none_in_order; in_all = refl; holds = λ j l. rw (none_busy j) (λ ready minutes. refl) }
 
 -- Any arrays in order keep what they hold.
 pub keeps_itself : {p : Processors} → InOrder p.begins p.ends p.first → Keeps (kept_by p) (at p.first 16) p

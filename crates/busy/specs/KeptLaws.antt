@@ -77,18 +77,6 @@ module _ (begins ends first : List ℕ) (j : ℕ) where
   free_at_each minutes t f k from to = f (span begins ends k) (kept_at begins ends first j k from to)
 
 -- At first there is none.
-pub none_in_order : InOrder (replicate 128 0) (replicate 128 0) (replicate 17 0)
-none_in_order =
-    record {
-      begins_size = refl;
-      ends_size = refl;
-      first_size = refl;
-      few = omega arith;
-      first_rises = λ j l. rw (repeated {A = ℕ} 17 0 j) (omega arith);
-      begins_rise = λ j k l b from le to. absurd (omega (arith, repeated {A = ℕ} 17 0 (j + 1)));
-      have_minutes = λ k l. absurd (omega arith);
-    }
-
 pub none_busy : (j : ℕ) → kept_busy (replicate 128 0) (replicate 128 0) (replicate 17 0) j ≡ []
 unfolding kept_busy listing
 none_busy j = rw (repeated {A = ℕ} 17 0 j, repeated {A = ℕ} 17 0 (j + 1))

@@ -25,7 +25,7 @@ use Rattle.busy.specs.Kept.{outset_most, Keeps, EndBy}
 use Rattle.busy.specs.KeepsLaws.{keeps_end_by}
 use Rattle.costs.specs.CostLaws.{lowest_cost_at_most}
 use Rattle.successors.specs.Held.{Held}
-use Rattle.successors.specs.HeldLaws.{held_back_next}
+use Rattle.successors.proofs.HeldLaws.{held_back_next}
 use Rattle.order.specs.Standing.{placing_order}
 use Rattle.placing.specs.Placed.{RanksOf, Columns}
 use Rattle.placing.specs.State.{State, without_rows}

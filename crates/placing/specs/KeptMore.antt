@@ -23,7 +23,7 @@ use Rattle.busy.specs.Put.{put_in}
 use Rattle.busy.specs.KeepsLaws.{keeps_put}
 use Rattle.successors.specs.Begins.{BeginsFrom}
 use Rattle.successors.specs.Held.{released}
-use Rattle.successors.specs.HeldLaws.{held_released}
+use Rattle.successors.proofs.HeldLaws.{held_released}
 use Rattle.ready.specs.Ready.{FromClock}
 use Rattle.hand.specs.Hand.{row_by}
 use Rattle.hand.specs.declared.Row as code

@@ -1,6 +1,5 @@
 pub mod Begins
 pub mod Counted
 pub mod Held
-pub mod HeldLaws
 pub mod MarkedOn
 pub mod Settled

@@ -2,5 +2,4 @@ pub mod Printed
 pub mod TextParts
 pub mod LineBounds
 pub mod AtMost
-pub mod Printing
 pub mod Settled

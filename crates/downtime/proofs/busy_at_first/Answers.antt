@@ -8,7 +8,8 @@ use Rattle.rules.specs.Workflow.{window_place, window_of, windows_on, workflow}
 use Rattle.good.specs.Good.{GoodWindow}
 use Rattle.good.specs.ReadIsGood.{read_is_good}
 use Rattle.reader.specs.Meaning.{meant_view}
-use Rattle.busy.specs.KeepsLaws.{keeps_none, keeps_put}
+use Rattle.busy.proofs.AtFirst.{keeps_none}
+use Rattle.busy.specs.KeepsLaws.{keeps_put}
 use Rattle.downtime.specs.Windows.{kept_windows}
 use Rattle.downtime.proofs.busy_at_first.Goals as goal
 

@@ -1,6 +1,6 @@
 -- By the cases of the answer, each of which tells the length.
 use mathlib.Core.Path.{sym, ◌∙◌}
-use Rattle.text.specs.Printing.{whole_printed, too_small_printed}
+use Rattle.text.proofs.Printing.{whole_printed, too_small_printed}
 use Rattle.exports.proofs.print_by.Goals as goal
 
 pub returns-in-Whole : goal.returns-in-Whole

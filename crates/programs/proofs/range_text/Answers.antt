@@ -1,5 +1,5 @@
 -- What was printed lies inside the buffer.
-use Rattle.programs.specs.Told.{text_in}
+use Rattle.programs.proofs.TextIn.{text_in}
 use Rattle.programs.proofs.range_text.Goals as goal
 
 pub returns : goal.returns

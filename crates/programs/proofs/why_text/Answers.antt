@@ -1,7 +1,7 @@
 -- The two numbers are spelled, and what was printed lies inside the buffer.
 use mathlib.Core.Path.{ap₂}
 use Rattle.rules.specs.Why.{why_not, why_text}
-use Rattle.programs.specs.Told.{text_in}
+use Rattle.programs.proofs.TextIn.{text_in}
 use Rattle.programs.proofs.why_text.Goals as goal
 
 pub returns : goal.returns

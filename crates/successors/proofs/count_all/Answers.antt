@@ -6,7 +6,7 @@ use Rattle.good.specs.Ranges.{InRange}
 use Rattle.lookup.specs.Lookup.{workflow_of}
 use Rattle.lookup.specs.Views.{view_in_range}
 use Rattle.successors.specs.Counted.{counted_none, counted_most, counted_next}
-use Rattle.successors.specs.HeldLaws.{held_at_first}
+use Rattle.successors.proofs.HeldLaws.{held_at_first}
 use native.Mathlib.Omega.{arith}
 use Rattle.successors.proofs.count_all.Goals as goal
 

@@ -7,7 +7,7 @@ use Rattle.good.specs.Ranges.{InRange}
 use Rattle.lookup.specs.Lookup.{workflow_of}
 use Rattle.lookup.specs.Views.{view_in_range}
 use Rattle.successors.specs.Held.{counted_down, released}
-use Rattle.successors.specs.HeldLaws.{counted_down_next}
+use Rattle.successors.proofs.HeldLaws.{counted_down_next}
 use native.Mathlib.Omega.{arith}
 use Rattle.successors.proofs.release.Goals as goal
 

@@ -2,7 +2,7 @@
 use native.Mathlib.Omega.{arith}
 use Rattle.choosing.specs.Named.{meant_method}
 use Rattle.text.specs.AtMost.{text_at_most}
-use Rattle.text.specs.Printing.{front_length, front_printed}
+use Rattle.text.proofs.Printing.{front_length, front_printed}
 use Rattle.text.proofs.print.Goals as goal
 
 pub slice_bounds-whole-end : goal.slice_bounds-whole-end

@@ -7,7 +7,7 @@ use lib.ListN.{length}
 use Rattle.rules.specs.Range.{range_line, range_text}
 use Rattle.planner.specs.Planned.{meant_costs}
 use Rattle.text.specs.AtMost.{range_at_most}
-use Rattle.text.specs.Printing.{front_length, front_printed}
+use Rattle.text.proofs.Printing.{front_length, front_printed}
 use Rattle.text.proofs.print_range.Lts as lts
 use Rattle.text.proofs.print_range.Tie as tie
 use Rattle.text.proofs.print_range.Reads as reads

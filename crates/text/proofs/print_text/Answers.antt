@@ -1,7 +1,7 @@
 -- The text is copied where there is room for it.
 use mathlib.Core.Path.{refl}
 use native.Mathlib.Omega.{arith}
-use Rattle.text.specs.Printing.{printed_nothing, printed_whole}
+use Rattle.text.proofs.Printing.{printed_nothing, printed_whole}
 use Rattle.text.proofs.print_text.Goals as goal
 
 pub returns-then-room-n : goal.returns-then-room-n

@@ -1,7 +1,7 @@
 -- The text of the reason stands in the front of the local buffer, and is printed from there.
 use native.Mathlib.Omega.{arith}
 use lib.ListN.{length-take}
-use Rattle.text.specs.Printing.{front_length, front_printed}
+use Rattle.text.proofs.Printing.{front_length, front_printed}
 use Rattle.text.proofs.print_why.Goals as goal
 
 pub slice_bounds-said-end : goal.slice_bounds-said-end
