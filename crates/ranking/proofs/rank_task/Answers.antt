@@ -27,8 +27,7 @@ bounds-ranks-task c =
 pub returns-then-ranks-task-gt0 : goal.returns-then-ranks-task-gt0
 returns-then-ranks-task-gt0 c =
     let pre = c.requires in
-    let if1 = c.if-ranks-task-gt0 in
-    turned_none pre.task_lt_tasks.1 (λ unknown. absurd (omega (arith, unknown, if1.true)))
+    turned_none pre.task_lt_tasks.1 (λ unknown. absurd (omega (arith, unknown, c.if-ranks-task-gt0.true)))
 
 pub rank_of-rank-requires : goal.rank_of-rank-requires
 rank_of-rank-requires c =
@@ -80,12 +79,12 @@ unfolding workflow
 returns c =
     let pre = c.requires in
     let a = c.args in
-    let if1 = c.if-ranks-task-gt0 in
+    let unranked = c.if-ranks-task-gt0 in
     let rank-of = c.rank_of-rank in
     let if2 = c.if-rank-eq0 in
     let W = workflow_of a.s.now a.v in
     let range = view_in_range a.s.now a.v pre.view_of in
     let so_far = pre.task_lt_tasks.1 in
-    let unknown : at a.ranks.now a.task ≡ 0 = omega (arith, if1.false) in
+    let unknown : at a.ranks.now a.task ≡ 0 = omega (arith, unranked.false) in
     let due = rank-of.ensures.due (omega (arith, if2.false)) in
     rank_turned W range a.ranks.now a.left a.task rank-of.result so_far pre.task_lt_tasks.0 unknown due.0 due.1
