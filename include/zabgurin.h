@@ -6,16 +6,16 @@
    stack, from its return address down; the arguments that stand in the caller's frame are not counted. That is added up from the compiled frames and measured,
    not proved, and holds for the library as this version of the kit compiles it:
 
-    zabgurin_print           11,272 bytes
-    zabgurin_print_cheapest  11,272 bytes
-    zabgurin_print_heft      11,272 bytes
-    zabgurin_why              9,080 bytes
-    zabgurin_plan             9,048 bytes
-    zabgurin_cheapest         9,048 bytes
-    zabgurin_heft             9,048 bytes
-    zabgurin_range            9,032 bytes
+    zabgurin_print           11,208 bytes
+    zabgurin_print_cheapest  11,208 bytes
+    zabgurin_print_heft      11,208 bytes
+    zabgurin_why              8,968 bytes
+    zabgurin_plan             9,240 bytes
+    zabgurin_cheapest         9,240 bytes
+    zabgurin_heft             9,240 bytes
+    zabgurin_range            9,048 bytes
     zabgurin_label              520 bytes
-    zabgurin_read               488 bytes
+    zabgurin_read               504 bytes
     zabgurin_label_len            8 bytes
     zabgurin_listed               8 bytes
 

@@ -8,66 +8,86 @@ ghost use Rattle.rules.specs.Answer.{too_late};
 ghost use Rattle.laws.specs.Bounds.{total_most, budget_most};
 ghost use Rattle.choosing.specs.Named.{meant_method};
 ghost use Rattle.reader.specs.Meaning.{meant_deadline, meant_share};
-ghost use Rattle.lookup.specs.Lookup.{workflow_of};
-ghost use Rattle.placing.specs.Placed.{Columns, PlacedAs};
-ghost use Rattle.budgets.specs.Prepared.{Prepared, held_to_none};
+ghost use Rattle.lookup.specs.Flow.{flow};
+ghost use Rattle.budgets.specs.Prepared.{IsPrepared, RowsAre, PlacedWith, held_to_none};
 
+use charges::Charges;
 use choosing::Method;
+use lookup::Request;
 use placing::Placing;
-use reader::{Deadline, Share, View};
 
-// "length above the deadline"
-pub fn too_late(deadline: Deadline, length: u64) -> bool
-    ensures { result ≡ too_late (meant_deadline deadline) length }
-{
-    match deadline {
-        Deadline::Without => false,
-        Deadline::By(minutes) => minutes < length,
+// The rows of all tasks, each field in an array: at i that of task i, and 0 for a task that has no row.
+#[derive(Clone, Copy, Debug, PartialEq, Eq)]
+pub struct Rows {
+    pub processors: [u64; 64],
+    pub starts: [u64; 64],
+    pub finishes: [u64; 64],
+    pub costs: [u64; 64],
+}
+
+impl Rows {
+    // No task has a row.
+    pub fn none() -> Rows
+        ensures { RowsAre [] result }
+    {
+        Rows {
+            processors: [0; 64],
+            starts: [0; 64],
+            finishes: [0; 64],
+            costs: [0; 64],
+        }
     }
 }
 
-// Places all tasks by a method within a budget, beside the windows, which are read for it, and from minute 0 on.
-pub fn place_all<'a>(
-    s: &[u8],
-    v: View,
-    method: Method,
-    budget: u64,
-    prices: &'a [u64; 16],
-    minimums: &'a [u64; 16],
-    ranks: &[u64; 64],
-    edges_at: &[u16; 65],
-    cheapest: u64,
-    processors: &mut [u64; 64],
-    starts: &mut [u64; 64],
-    finishes: &mut [u64; 64],
-    costs: &mut [u64; 64],
-) -> Placing
-    requires prepared { Prepared s.now v prices.now minimums.now ranks.now edges_at.now cheapest }
-    requires budget_le_budget_most { budget ≤ budget_most }
-    requires columns { Columns [] processors.old starts.old finishes.old costs.old }
-    ensures { PlacedAs (meant_method method) (in_force budget no_deadline (workflow_of s.now v)) processors.new starts.new finishes.new costs.new result }
-{
-    let outset = downtime::busy_at_first(s, v);
-    let clock: u64 = 0;
-    placing::place(
-        s, v, method, budget, prices, minimums, ranks, edges_at, cheapest, outset, clock,
-        processors, starts, finishes, costs,
-    )
+// What is computed of a good request before its tasks are placed: what its processors charge, the tasks' ranks, where each task's edges begin, and the cheapest total.
+#[derive(Clone, Copy)]
+pub struct Prepared<'a> {
+    pub charges: &'a Charges,
+    pub ranks: &'a [u64; 64],
+    pub edges_at: &'a [u16; 65],
+    pub cheapest: u64,
 }
 
-// Takes all rows back.
-pub fn no_rows(
-    processors: &mut [u64; 64],
-    starts: &mut [u64; 64],
-    finishes: &mut [u64; 64],
-    costs: &mut [u64; 64],
-)
-    ensures { Columns [] processors.new starts.new finishes.new costs.new }
+// "length above the deadline"
+#[tactic(auto, unfolding(rules::specs::Answer::too_late))]
+pub fn too_late(deadline: Option<u64>, length: u64) -> bool
+    ensures { result ≡ too_late (meant_deadline deadline) length }
 {
-    *processors = [0u64; 64];
-    *starts = [0u64; 64];
-    *finishes = [0u64; 64];
-    *costs = [0u64; 64];
+    deadline.is_some_and(|minutes| minutes < length)
+}
+
+// Places all tasks by a method within a budget, beside the windows, which are read for it, and from minute 0 on.
+pub fn place_all(
+    r: &Request<'_>,
+    method: Method,
+    budget: u64,
+    prepared: &Prepared,
+    rows: &mut Rows,
+) -> Placing
+    requires prepared { IsPrepared r.now.bytes.now r.now.view prepared.now }
+    requires budget_le_budget_most { budget ≤ budget_most }
+    requires none { RowsAre [] rows.old }
+    ensures { PlacedWith (meant_method method) (in_force budget no_deadline (flow r.now)) rows.new result }
+{
+    let outset = downtime::busy_at_first(r);
+    let clock: u64 = 0;
+    let charges = prepared.charges;
+    placing::place(
+        r,
+        method,
+        budget,
+        &charges.prices,
+        &charges.minimums,
+        prepared.ranks,
+        prepared.edges_at,
+        prepared.cheapest,
+        outset,
+        clock,
+        &mut rows.processors,
+        &mut rows.starts,
+        &mut rows.finishes,
+        &mut rows.costs,
+    )
 }
 
 // "budget = cheapest + floor(k x (HEFT cost - cheapest) / 1000)"
@@ -75,57 +95,30 @@ fn budget_between(k: u64, cheapest: u64, heft_cost: u64) -> u64
     requires { (k ≤ 1_000) × (cheapest ≤ total_most) × (heft_cost ≤ total_most) }
     ensures { (result ≡ budget_between k cheapest heft_cost) × (result ≤ budget_most) }
 {
-    cheapest + k * numbers::less(heft_cost, cheapest) / 1_000
+    cheapest + k * heft_cost.saturating_sub(cheapest) / 1_000
 }
 
 // The budget in force: that of `H`, or the one that a `K` sets. For this the HEFT plan is placed, and its rows are taken back.
-pub fn budget_of<'a>(
-    s: &[u8],
-    v: View,
-    prices: &'a [u64; 16],
-    minimums: &'a [u64; 16],
-    ranks: &[u64; 64],
-    edges_at: &[u16; 65],
-    cheapest: u64,
-    processors: &mut [u64; 64],
-    starts: &mut [u64; 64],
-    finishes: &mut [u64; 64],
-    costs: &mut [u64; 64],
-) -> u64
-    requires prepared { Prepared s.now v prices.now minimums.now ranks.now edges_at.now cheapest }
-    requires columns { Columns [] processors.old starts.old finishes.old costs.old }
-    ensures { (result ≡ budget_of (meant_share v.share) (workflow_of s.now v)) × (result ≤ budget_most) × Columns [] processors.new starts.new finishes.new costs.new }
+pub fn budget_of(r: &Request<'_>, prepared: &Prepared, rows: &mut Rows) -> u64
+    requires prepared { IsPrepared r.now.bytes.now r.now.view prepared.now }
+    requires none { RowsAre [] rows.old }
+    ensures { (result ≡ budget_of (meant_share r.now.view.share) (flow r.now)) × (result ≤ budget_most) × RowsAre [] rows.new }
 {
-    let share = v.share;
-    let Share::Of(k) = share else {
-        return v.budget;
+    let Some(k) = r.view.share else {
+        return r.view.budget;
     };
-    let heft = place_all(
-        s,
-        v,
-        Method::Heft,
-        0,
-        prices,
-        minimums,
-        ranks,
-        edges_at,
-        cheapest,
-        processors,
-        starts,
-        finishes,
-        costs,
-    );
-    no_rows(processors, starts, finishes, costs);
-    budget_between(k, cheapest, heft.cost)
+    let heft = place_all(r, Method::Heft, 0, prepared, rows);
+    *rows = Rows::none();
+    budget_between(k, prepared.cheapest, heft.cost)
 }
 
 // Whether a method is held to no budget.
+#[tactic(auto, unfolding(choosing::specs::Named::meant_method))]
 pub fn alone(method: Method) -> bool
     ensures { result ≡ held_to_none (meant_method method) }
 {
     match method {
         Method::Hbcs => false,
-        Method::Cheapest => true,
-        Method::Heft => true,
+        Method::Cheapest | Method::Heft => true,
     }
 }

@@ -3,8 +3,7 @@ use Rattle.std.specs.Prelude.{ℕ, ◌≡◌, List}
 use Rattle.rules.specs.Method.{Name}
 use Rattle.rules.specs.Answer.{answer_asked}
 use Rattle.rules.specs.Buffers.{Buffers, rows_lent, buffers_asked}
-use Rattle.planner.specs.declared.Answer.{Answer}
-use Rattle.planner.specs.Planned.{meant_answer}
+use Rattle.planner.specs.Planned.{Answer, meant_answer}
 
 -- The four slices that a caller lends, as the rules' buffers.
 abbrev pub four : (processors starts finishes costs : List ℕ) → Buffers

@@ -7,8 +7,7 @@ use Rattle.rules.specs.Method.{Name}
 use Rattle.rules.specs.Answer.{Outcome, plan, refusal, outcome_asked, answer_asked, written, rows_asked}
 use Rattle.rules.specs.Buffers.{Buffers, rows_lent, column_after, buffers_written, buffers_asked}
 use Rattle.laws.specs.Overwritten.{overwritten_mapped}
-use Rattle.planner.specs.declared.Answer.{Answer}
-use Rattle.planner.specs.Planned.{meant_answer}
+use Rattle.planner.specs.Planned.{Answer, meant_answer}
 use Rattle.buffers.specs.Into.{PlannedInto}
 
 -- The fields of rows, each in a buffer of its own.

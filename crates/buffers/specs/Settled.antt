@@ -4,7 +4,7 @@ use Rattle.std.specs.Prelude.{ℕ, ◌≡◌, List}
 use Rattle.std.proofs.Common.{sym, ◌∙◌}
 use Rattle.rules.specs.Method.{Name}
 use Rattle.rules.specs.Buffers.{Buffers}
-use Rattle.planner.specs.declared.Answer.{Answer}
+use Rattle.planner.specs.Planned.{Answer}
 use Rattle.planner.specs.Settled.{answer_settled}
 use Rattle.buffers.specs.Into.{PlannedInto}
 

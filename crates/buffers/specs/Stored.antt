@@ -11,8 +11,7 @@ use Rattle.laws.specs.Listing.{listing_same}
 use Rattle.laws.specs.Overwritten.{overwritten}
 use Rattle.laws.specs.Stores.{at}
 use Rattle.placing.specs.Placed.{Column}
-use Rattle.planner.specs.declared.Answer.{Answer}
-use Rattle.planner.specs.Planned.{meant_answer, rows_in, rows_told}
+use Rattle.planner.specs.Planned.{Answer, meant_answer, rows_in, rows_told}
 use Rattle.planner.specs.Reach.{rows_due, told_due}
 
 module _ (field : Row → ℕ) {xs : List ℕ} (buffer : List ℕ) where

@@ -7,6 +7,7 @@ ghost use Rattle.laws.specs.Stores.{at};
 ghost use Rattle.choosing.specs.Named.{meant_method};
 ghost use Rattle.buffers.specs.Into.{four, PlannedInto};
 
+use budgets::Rows;
 use choosing::Method;
 use planner::Answer;
 
@@ -15,25 +16,18 @@ fn store(buffer: &mut [u64], column: &[u64; 64], n: usize)
     requires { (n ≤ 64) × (n ≤ length buffer.old) }
     ensures { buffer.new ≡ listing n (at column.now) ++ drop n buffer.old }
 {
-    let mut i = 0;
-    while i < n {
-        buffer[i] = column[i];
-        i += 1;
-    }
+    buffer[..n].copy_from_slice(&column[..n]);
 }
 
 // The shortest of four lengths.
 fn shortest(a: usize, b: usize, c: usize, d: usize) -> usize
     ensures { result ≡ min (min a b) (min c d) }
 {
-    numbers::smaller(
-        numbers::smaller(a as u64, b as u64),
-        numbers::smaller(c as u64, d as u64),
-    ) as usize
+    a.min(b).min(c.min(d))
 }
 
 // The plan of a request by the method that is asked for, its rows in four lent buffers: row i in the numbers at i. As many rows are lent as the shortest
-// buffer has numbers. A plan writes rows 0 to n-1 and keeps what stands after them; a refusal changes nothing.
+// buffer has numbers. A plan writes rows 0 to n-1 and keeps what stands after them; a refusal changes nothing. Four buffers, since C lends them so.
 pub fn plan_into(
     request: &[u8],
     method: Method,
@@ -45,23 +39,12 @@ pub fn plan_into(
     ensures { PlannedInto (meant_method method) request.now (four processors.old starts.old finishes.old costs.old) (four processors.new starts.new finishes.new costs.new) result }
 {
     let lent = shortest(processors.len(), starts.len(), finishes.len(), costs.len());
-    let mut processor_of = [0u64; 64];
-    let mut start_of = [0u64; 64];
-    let mut finish_of = [0u64; 64];
-    let mut cost_of = [0u64; 64];
-    let answer = asked::plan_columns(
-        request,
-        method,
-        lent,
-        &mut processor_of,
-        &mut start_of,
-        &mut finish_of,
-        &mut cost_of,
-    );
+    let mut rows = Rows::none();
+    let answer = asked::plan_columns(request, method, lent, &mut rows);
     let n = planner::rows_of(answer) as usize;
-    store(processors, &processor_of, n);
-    store(starts, &start_of, n);
-    store(finishes, &finish_of, n);
-    store(costs, &cost_of, n);
+    store(processors, &rows.processors, n);
+    store(starts, &rows.starts, n);
+    store(finishes, &rows.finishes, n);
+    store(costs, &rows.costs, n);
     answer
 }

@@ -1,5 +1,5 @@
 -- What is kept of the processors at first: nothing.
-use Rattle.std.specs.Prelude.{ℕ, ◌+◌, ◌≤◌, ◌<◌, ◌≡◌, replicate}
+use Rattle.std.specs.Prelude.{ℕ, ◌+◌, replicate}
 use Rattle.std.proofs.Math.Path.{refl}
 use Rattle.std.proofs.Common.{arith}
 use mathlib.Core.List.{[]}

@@ -1,9 +1,9 @@
 -- What is kept of the processors: one interval more; and it all ends when what they are busy with does.
-use Rattle.std.specs.Prelude.{ℕ, ◌+◌, ◌≤◌, ◌<◌, ◌≡◌, Bool, eqb, replicate}
+use Rattle.std.specs.Prelude.{ℕ, ◌+◌, ◌≤◌, ◌<◌, ◌≡◌, Bool, eqb}
 use Rattle.std.proofs.Math.Path.{refl}
 use Rattle.std.proofs.Common.{◌∙◌, arith, ltb-true, ltb-false}
 use Rattle.std.proofs.Math.Bool.{true, false, cond}
-use mathlib.Core.List.{List, [], ◌∷◌, Memᴰ}
+use mathlib.Core.List.{List, ◌∷◌, Memᴰ}
 use Rattle.std.proofs.Math.Dec.{ltb}
 use Rattle.rules.specs.Workflow.{Interval, busy_with}
 use Rattle.laws.specs.SameStart.{SameStart, same_start_more, same_start_none, same_start_ends}

@@ -1,5 +1,5 @@
 -- Where the intervals of a processor stand, and when a task can start there, said of places in the arrays; and the arrays at first.
-use Rattle.std.specs.Prelude.{ℕ, zero, suc, ◌+◌, ◌-◌, ◌≤◌, ◌<◌, ◌≡◌, refl, replicate}
+use Rattle.std.specs.Prelude.{ℕ, zero, suc, ◌+◌, ◌-◌, ◌≤◌, ◌<◌, ◌≡◌, replicate}
 use Rattle.std.proofs.Common.{subst}
 use mathlib.Core.List.{List, [], Memᴰ}
 use Rattle.std.proofs.Math.Decide.{dec_le, dec_lt}

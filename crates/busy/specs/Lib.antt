@@ -1,3 +1,4 @@
+pub mod Intervals
 pub mod Kept
 pub mod KeptLaws
 pub mod Passed

@@ -1,1 +1,2 @@
 pub mod ByProcessor
+pub mod OrderLaws

@@ -4,11 +4,10 @@
 ghost use Rattle.std.specs.Prelude.{◌+◌, ◌≤◌, length};
 ghost use Rattle.rules.specs.Fields.{size};
 ghost use Rattle.rules.specs.Workflow.{processor_kind};
-ghost use Rattle.reader.specs.Meaning.{ViewOf};
-ghost use Rattle.lookup.specs.Lookup.{workflow_of};
+ghost use Rattle.lookup.specs.Flow.{flow};
 ghost use Rattle.charges.specs.Charges.{ChargeAt, ChargesOf};
 
-use reader::View;
+use lookup::Request;
 
 // What one processor charges, and where the record after its own begins.
 #[derive(Clone, Copy)]
@@ -47,20 +46,18 @@ pub struct Charges {
 }
 
 // The prices and the minimums of a good request's processors.
-pub fn charges_of(s: &[u8], v: View) -> Charges
-    requires { ViewOf s.now v }
-    ensures { ChargesOf (workflow_of s.now v) result.prices result.minimums }
+#[tactic(auto, using(lookup::specs::Views::view_processors))]
+pub fn charges_of(r: &Request<'_>) -> Charges
+    ensures { ChargesOf (flow r.now) result.prices result.minimums }
 {
     let mut prices = [0u64; 16];
     let mut minimums = [0u64; 16];
-    let mut at = v.prices_at;
-    let mut j = 0;
-    while j < v.processors {
-        let charge = charge_at(s, at);
+    let mut at = r.view.prices_at;
+    for j in 0..r.view.processors {
+        let charge = charge_at(r.bytes, at);
         prices[j] = charge.price;
         minimums[j] = charge.minimum;
         at = charge.next;
-        j += 1;
     }
     Charges { prices, minimums }
 }

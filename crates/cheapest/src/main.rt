@@ -2,13 +2,11 @@
 #![tactic(auto)]
 
 use choosing::Method;
-use std::io::Write;
 
 fn main(rt: HostRuntime) {
-    let mut request = [0u8; 16384];
-    let read = programs::read_full(&mut rt.stdin(), &mut request);
-    let mut out = [0u8; 2304];
-    let length = programs::plan_text(&request[..read], Method::Cheapest, &mut out);
     // A closed output ends it quietly.
-    rt.stdout().write_all(&out[..length]).ok();
+    programs::answer(&mut rt.stdin(), &mut rt.stdout(), |request, out| {
+        programs::plan_text(request, Method::Cheapest, out)
+    })
+    .ok();
 }

@@ -2,7 +2,7 @@
 use Rattle.std.specs.Prelude.{ℕ, suc, ◌+◌, ◌≤◌, ◌<◌, ◌≡◌, Bool, ltb}
 use Rattle.std.proofs.Math.Path.{refl, sym}
 use Rattle.std.proofs.Common.{◌∙◌, eq-or-lt_of_le, arith}
-use Rattle.std.proofs.Math.Bool.{true, false, cond}
+use Rattle.std.proofs.Math.Bool.{true, false, cond, or-false}
 use Rattle.std.proofs.Math.Logic.{⊎_elim}
 use Rattle.std.proofs.Math.Numerals.{add-one}
 use Rattle.std.proofs.Math.Dec.{leb-suc-suc, eqb-suc-suc}
@@ -13,7 +13,6 @@ use Rattle.laws.specs.Tests.{cond_either}
 use Rattle.laws.specs.Numbers.{below_next}
 use Rattle.laws.specs.Orders.{lower_tie}
 use Rattle.laws.specs.First.{first_at_most, first_next}
-use Rattle.choosing.specs.LowestLaws.{or_false}
 use Rattle.choosing.specs.Figured.{standing}
 use Rattle.choosing.specs.Leading.{ahead_by, led_by, Stands, nobody, somebody, Leads}
 use Rattle.choosing.specs.declared.Leader.{Leader}
@@ -22,7 +21,7 @@ use Rattle.choosing.specs.declared.Leader.{Leader}
 module _ (l : Leader) (s f : ℕ) where
   pub ahead_uneven : (s ≡ l.standing → ⊥) → ltb l.standing s ≡ ahead_by l s f
   unfolding ahead_by
-  ahead_uneven h = rw (ne_eqb s l.standing h) (or_false (ltb l.standing s))
+  ahead_uneven h = rw (ne_eqb s l.standing h, or-false)
 
   pub ahead_even : s ≡ l.standing → ltb f l.finish ≡ ahead_by l s f
   unfolding ahead_by
@@ -37,11 +36,6 @@ module _ (l : Leader) (s f : ℕ) where
     stays : ahead_by l s f ≡ false → led_by l j s f ≡ l
     unfolding led_by
     stays h = rw h
-
-  pub led_by_parts : (t : Bool) (j : ℕ) → t ≡ ahead_by l s f
-      → record { processor = cond t j l.processor; standing = cond t s l.standing; finish = cond t f l.finish } ≡ led_by l j s f
-  led_by_parts true j h = sym (leads j (sym h))
-  led_by_parts false j h = sym (stays j (sym h))
 
 module _ (q : Question) where
   pub leads_first : (l : Leader) → l.processor ≡ 0 → l.standing ≡ 0 → l.finish ≡ 0 → Leads q 0 l

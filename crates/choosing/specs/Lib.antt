@@ -2,7 +2,6 @@ pub mod Named
 pub mod Asked
 pub mod Figured
 pub mod FiguredLaws
-pub mod LowestLaws
 pub mod Leading
 pub mod LeadingLaws
 pub mod Settled

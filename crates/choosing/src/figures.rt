@@ -20,7 +20,7 @@ pub struct Figures {
 fn best_cost(g: Figures, cost: u64, finish: u64) -> u64
     ensures { BestCost g cost finish result }
 {
-    let lower = numbers::smaller(g.best, cost);
+    let lower = g.best.min(cost);
     if finish < g.earliest {
         return cost;
     }
@@ -38,10 +38,10 @@ fn passed(g: Figures, cost: u64, finish: u64) -> Figures
         rb: g.rb,
         rcb: g.rcb,
         best: best_cost(g, cost, finish),
-        earliest: numbers::smaller(g.earliest, finish),
-        latest: numbers::larger(g.latest, finish),
-        lowest: numbers::smaller(g.lowest, cost),
-        highest: numbers::larger(g.highest, cost),
+        earliest: g.earliest.min(finish),
+        latest: g.latest.max(finish),
+        lowest: g.lowest.min(cost),
+        highest: g.highest.max(cost),
     }
 }
 
@@ -61,10 +61,8 @@ pub fn figures_of(m: usize, costs: &[u64; 16], finishes: &[u64; 16], rb: u64, rc
         lowest: cost,
         highest: cost,
     };
-    let mut j = 1;
-    while j < m {
+    for j in 1..m {
         g = passed(g, costs[j], finishes[j]);
-        j += 1;
     }
     g
 }
@@ -82,10 +80,7 @@ fn may_be_taken(g: Figures, cost: u64) -> bool
     requires { (cost ≤ cost_most) × (g.rcb ≤ total_most) }
     ensures { result ≡ may_by g cost }
 {
-    if g.best < cost {
-        return false;
-    }
-    affordable(g, cost)
+    cost <= g.best && affordable(g, cost)
 }
 
 // What a unit of cost saved and a minute of earlier finish count for in the score: RCB x F' and B' x RB'.
@@ -101,8 +96,8 @@ pub fn weights_of(g: Figures) -> Weights
     ensures { Weighed g result }
 {
     let rcb = g.rcb;
-    let f = numbers::or_one(numbers::less(g.latest, g.earliest));
-    let b = numbers::or_one(numbers::less(g.highest, g.lowest));
+    let f = numbers::or_one(g.latest.saturating_sub(g.earliest));
+    let b = numbers::or_one(g.highest.saturating_sub(g.lowest));
     let rb = numbers::or_one(g.rb);
     Weights {
         saved: rcb * f,
@@ -116,7 +111,7 @@ fn score(g: Figures, w: Weights, cost: u64, finish: u64) -> u64
     requires weighed { Weighed g w }
     ensures { (result ≡ score_by g cost finish) × (result ≤ score_most) }
 {
-    numbers::less(g.best, cost) * w.saved + numbers::less(g.latest, finish) * w.early
+    g.best.saturating_sub(cost) * w.saved + g.latest.saturating_sub(finish) * w.early
 }
 
 // 1 more than the score of a processor that may be taken; 0 for another.
@@ -127,5 +122,5 @@ pub fn standing(g: Figures, w: Weights, cost: u64, finish: u64) -> u64
     ensures { result ≡ standing_by g cost finish }
 {
     let above = score(g, w, cost, finish) + 1;
-    numbers::either(may_be_taken(g, cost), above, 0)
+    if may_be_taken(g, cost) { above } else { 0 }
 }

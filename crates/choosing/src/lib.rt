@@ -31,25 +31,26 @@ pub struct Leader {
 fn ahead(leader: Leader, standing: u64, finish: u64) -> bool
     ensures { result ≡ ahead_by leader standing finish }
 {
-    if standing == leader.standing {
-        return finish < leader.finish;
-    }
-    leader.standing < standing
+    (leader.standing, finish) < (standing, leader.finish)
 }
 
 // The leader once one processor more is passed.
 fn led(leader: Leader, processor: usize, standing: u64, finish: u64) -> Leader
     ensures { result ≡ led_by leader processor standing finish }
 {
-    let t = ahead(leader, standing, finish);
-    Leader {
-        processor: numbers::either_number(t, processor, leader.processor),
-        standing: numbers::either(t, standing, leader.standing),
-        finish: numbers::either(t, finish, leader.finish),
+    if ahead(leader, standing, finish) {
+        Leader {
+            processor,
+            standing,
+            finish,
+        }
+    } else {
+        leader
     }
 }
 
 // HBCS: the highest score among the processors that may be taken; ties to earlier finish, then lower number. Processor 0 where none may be taken.
+// Each standing is found once, and the leader's is kept; `numbers::first_by` would find both in each turn.
 fn within_budget(m: usize, costs: &[u64; 16], finishes: &[u64; 16], rb: u64, rcb: u64) -> usize
     requires { InRange (asked m costs.now finishes.now rb rcb) }
     ensures { result ≡ rules.HBCS (asked m costs.now finishes.now rb rcb) }
@@ -61,25 +62,12 @@ fn within_budget(m: usize, costs: &[u64; 16], finishes: &[u64; 16], rb: u64, rcb
         standing: 0,
         finish: 0,
     };
-    let mut j = 0;
-    while j < m {
+    for j in 0..m {
         let cost = costs[j];
         let finish = finishes[j];
         leader = led(leader, j, figures::standing(g, w, cost, finish), finish);
-        j += 1;
     }
     leader.processor
-}
-
-// i goes before j: by the one figure of each, and where these are even by the other.
-fn goes_first(by: &[u64; 16], then: &[u64; 16], i: usize, j: usize) -> bool
-    requires { (i < 16) × (j < 16) }
-    ensures { result ≡ lower (at by.now) (lower (at then.now) tie) i j }
-{
-    if by[i] == by[j] {
-        return then[i] < then[j];
-    }
-    by[i] < by[j]
 }
 
 // The processor that is lowest by the one figure; ties to the other, then lower number.
@@ -87,13 +75,7 @@ fn lowest_by(m: usize, by: &[u64; 16], then: &[u64; 16]) -> usize
     requires { m ≤ 16 }
     ensures { result ≡ first m (lower (at by.now) (lower (at then.now) tie)) }
 {
-    let mut lowest = 0;
-    let mut i = 0;
-    while i < m {
-        lowest = numbers::either_number(goes_first(by, then, i, lowest), i, lowest);
-        i += 1;
-    }
-    lowest
+    numbers::first_by(m, |i, j| (by[i], then[i]) < (by[j], then[j]))
 }
 
 // The processor that the method takes.

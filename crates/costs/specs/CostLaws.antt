@@ -24,3 +24,6 @@ module _ (W : Workflow) (range : good.InRange W) (i : ℕ) where
   pub lowest_filled : {costs : List ℕ} → Filled W.processors (cost W i) costs → lowest W.processors (at costs) ≡ lowest_cost W i
   unfolding lowest_cost
   lowest_filled all = lowest_same W.processors _ (cost W i) all.below range.processors_in.from_low
+
+  pub lowest_filled_at_most : {costs : List ℕ} → Filled W.processors (cost W i) costs → lowest W.processors (at costs) ≤ cost_most
+  lowest_filled_at_most all = omega (arith, lowest_filled all, lowest_cost_at_most)

@@ -4,33 +4,29 @@
 ghost use Rattle.std.specs.Prelude.{◌≡◌, ◌≤◌, ◌<◌};
 ghost use Rattle.rules.specs.Folds.{lowest};
 ghost use Rattle.rules.specs.Ranks.{cost, cheapest_total};
-ghost use Rattle.reader.specs.Meaning.{ViewOf};
-ghost use Rattle.lookup.specs.Lookup.{workflow_of};
+ghost use Rattle.lookup.specs.Flow.{flow};
 ghost use Rattle.charges.specs.Charges.{ChargesOf};
 ghost use Rattle.laws.specs.Bounds.{total_most};
 ghost use Rattle.laws.specs.Stores.{at};
 ghost use Rattle.laws.specs.Filled.{Filled};
 
-use reader::View;
+use lookup::Request;
 
 // The task's cost on each processor.
+#[tactic(auto, using(lookup::specs::Views::view_processors))]
 pub fn cost_on_all<'a>(
-    s: &[u8],
-    v: View,
+    r: &Request<'_>,
     prices: &'a [u64; 16],
     minimums: &'a [u64; 16],
     task: usize,
 ) -> [u64; 16]
-    requires view_of { ViewOf s.now v }
-    requires charges_of { ChargesOf (workflow_of s.now v) prices.now minimums.now }
-    requires task_lt_tasks { task < v.tasks }
-    ensures { Filled v.processors (cost (workflow_of s.now v) task) result }
+    requires charges_of { ChargesOf (flow r.now) prices.now minimums.now }
+    requires task_lt_tasks { task < r.now.view.tasks }
+    ensures { Filled r.now.view.processors (cost (flow r.now) task) result }
 {
     let mut all = [0u64; 16];
-    let mut j = 0;
-    while j < v.processors {
-        all[j] = numbers::larger(minimums[j], lookup::minutes(s, v, task, j) * prices[j]);
-        j += 1;
+    for j in 0..r.view.processors {
+        all[j] = minimums[j].max(r.minutes(task, j) * prices[j]);
     }
     all
 }
@@ -41,26 +37,21 @@ pub fn lowest_of(m: usize, all: &[u64; 16]) -> u64
     ensures { result ≡ lowest m (at all.now) }
 {
     let mut low = all[0];
-    let mut j = 1;
-    while j < m {
-        low = numbers::smaller(low, all[j]);
-        j += 1;
+    for j in 1..m {
+        low = low.min(all[j]);
     }
     low
 }
 
 // The cheapest total: the sum of all tasks' lowest costs.
-pub fn cheapest_total<'a>(s: &[u8], v: View, prices: &'a [u64; 16], minimums: &'a [u64; 16]) -> u64
-    requires view_of { ViewOf s.now v }
-    requires charges_of { ChargesOf (workflow_of s.now v) prices.now minimums.now }
-    ensures { (result ≡ cheapest_total (workflow_of s.now v)) × (result ≤ total_most) }
+pub fn cheapest_total<'a>(r: &Request<'_>, prices: &'a [u64; 16], minimums: &'a [u64; 16]) -> u64
+    requires { ChargesOf (flow r.now) prices.now minimums.now }
+    ensures { (result ≡ cheapest_total (flow r.now)) × (result ≤ total_most) }
 {
     let mut total: u64 = 0;
-    let mut i = 0;
-    while i < v.tasks {
-        let costs = cost_on_all(s, v, prices, minimums, i);
-        total = total + lowest_of(v.processors, &costs);
-        i += 1;
+    for i in 0..r.view.tasks {
+        let costs = cost_on_all(r, prices, minimums, i);
+        total += lowest_of(r.view.processors, &costs);
     }
     total
 }

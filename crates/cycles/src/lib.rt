@@ -3,12 +3,11 @@
 
 ghost use Rattle.std.specs.Prelude.{◌≡◌, true, false, ◌||◌, ◌<◌, eqb, get_or};
 ghost use Rattle.rules.specs.Cycle.{back_to_itself, cyclic, lowest_in_cycle};
-ghost use Rattle.reader.specs.Meaning.{ViewOf};
-ghost use Rattle.lookup.specs.Lookup.{workflow_of};
+ghost use Rattle.lookup.specs.Flow.{flow};
 ghost use Rattle.laws.specs.Turned.{Turned};
 ghost use Rattle.cycles.specs.Marked.{MarkedSoFar, Followed, AllFollowed};
 
-use reader::View;
+use lookup::Request;
 
 // Whether a task is the start or is marked.
 fn reached(marks: &[bool; 64], start: usize, task: usize) -> bool
@@ -19,23 +18,22 @@ fn reached(marks: &[bool; 64], start: usize, task: usize) -> bool
 }
 
 // Marks the task that an edge leads to, if the one that it leads from is reached. Answers how many are left.
+#[tactic(auto, using(lookup::specs::Views::view_tasks))]
 fn mark_end(
-    s: &[u8],
-    v: View,
+    r: &Request<'_>,
     marks: &mut [bool; 64],
     start: usize,
     edge: usize,
     left: usize,
 ) -> usize
-    requires view_of { ViewOf s.now v }
-    requires edge_lt_edges { (edge < v.edges) × MarkedSoFar (workflow_of s.now v) start marks.old left }
-    ensures { Turned (MarkedSoFar (workflow_of s.now v) start) (λ marks. Followed (workflow_of s.now v) start marks edge) marks.entry.now marks.exit.now left result }
+    requires { (edge < r.now.view.edges) × MarkedSoFar (flow r.now) start marks.old left }
+    ensures { Turned (MarkedSoFar (flow r.now) start) (λ marks. Followed (flow r.now) start marks edge) marks.entry.now marks.exit.now left result }
 {
-    let to = lookup::to(s, v, edge);
+    let to = r.to(edge);
     if marks[to] {
         return left;
     }
-    if reached(marks, start, lookup::from(s, v, edge)) {
+    if reached(marks, start, r.from(edge)) {
         marks[to] = true;
         return left - 1;
     }
@@ -43,31 +41,28 @@ fn mark_end(
 }
 
 // Marks along all edges. Answers how many are left.
-fn mark_pass(s: &[u8], v: View, marks: &mut [bool; 64], start: usize, left: usize) -> usize
-    requires view_of { ViewOf s.now v }
-    requires marked_so_far { MarkedSoFar (workflow_of s.now v) start marks.old left }
-    ensures { Turned (MarkedSoFar (workflow_of s.now v) start) (AllFollowed (workflow_of s.now v) start v.edges) marks.old marks.new left result }
+fn mark_pass(r: &Request<'_>, marks: &mut [bool; 64], start: usize, left: usize) -> usize
+    requires { MarkedSoFar (flow r.now) start marks.old left }
+    ensures { Turned (MarkedSoFar (flow r.now) start) (AllFollowed (flow r.now) start r.now.view.edges) marks.old marks.new left result }
 {
     let mut now_left = left;
-    let mut e = 0;
-    while e < v.edges {
-        now_left = mark_end(s, v, marks, start, e, now_left);
-        e += 1;
+    for e in 0..r.view.edges {
+        now_left = mark_end(r, marks, start, e, now_left);
     }
     now_left
 }
 
 // Whether a task has a path back to itself.
-fn leads_back(s: &[u8], v: View, start: usize) -> bool
-    requires view_of { ViewOf s.now v }
-    requires start_lt_tasks { start < v.tasks }
-    ensures { result ≡ back_to_itself (workflow_of s.now v) start }
+#[tactic(auto, using(lookup::specs::Views::view_tasks))]
+fn leads_back(r: &Request<'_>, start: usize) -> bool
+    requires { start < r.now.view.tasks }
+    ensures { result ≡ back_to_itself (flow r.now) start }
 {
     let mut marks = [false; 64];
-    let mut left = v.tasks;
+    let mut left = r.view.tasks;
     while 0 < left {
         let before = left;
-        left = mark_pass(s, v, &mut marks, start, before);
+        left = mark_pass(r, &mut marks, start, before);
         if left == before {
             return marks[start];
         }
@@ -76,17 +71,14 @@ fn leads_back(s: &[u8], v: View, start: usize) -> bool
 }
 
 // The lowest task with a path back to itself, where the edges have a cycle.
-pub fn lowest_in_cycle(s: &[u8], v: View) -> usize
-    requires view_of { ViewOf s.now v }
-    requires v_value { cyclic (workflow_of s.now v) ≡ true }
-    ensures { result ≡ lowest_in_cycle (workflow_of s.now v) }
+pub fn lowest_in_cycle(r: &Request<'_>) -> usize
+    requires { cyclic (flow r.now) ≡ true }
+    ensures { result ≡ lowest_in_cycle (flow r.now) }
 {
-    let mut task = 0;
-    while task < v.tasks {
-        if leads_back(s, v, task) {
+    for task in 0..r.view.tasks {
+        if leads_back(r, task) {
             return task;
         }
-        task += 1;
     }
-    task
+    unreachable!()
 }

@@ -1,7 +1,8 @@
 -- Bytes written over a buffer from the last to the first.
 use Rattle.std.specs.Prelude.{ℕ, ◌+◌, ◌≤◌, ◌≡◌, List, [], ◌∷◌, ◌++◌, length, set}
 use Rattle.std.proofs.Common.{sym, ap, ◌∙◌, append_assoc, append-nil, arith, length-append}
-use Rattle.decimals.specs.Wrote.{Room, Wrote, wrote_nothing, wrote_before, wrote_length}
+use Rattle.decimals.specs.Wrote.{Room, Wrote, wrote_length}
+use Rattle.decimals.specs.Lent.{wrote_nothing, wrote_before}
 
 -- Of the bytes to write from `at` on, those past `front` are written, from `place` on.
 pub record WroteLast (out : List ℕ) (at : ℕ) (bytes front out' : List ℕ) (place end : ℕ) : Type 0 where

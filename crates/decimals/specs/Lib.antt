@@ -1,4 +1,6 @@
 pub mod Wrote
-pub mod Backwards
 pub mod Decimals
+pub mod Lines
+pub mod Lent
+pub mod Backwards
 pub mod Fields

@@ -1,8 +1,7 @@
--- Bytes written over a buffer from one place on, and what stands before and after them stays. Such writes, one after the other, are one write.
-use Rattle.std.specs.Prelude.{ℕ, ◌+◌, ◌≤◌, ◌≡◌, refl, List, [], ◌∷◌, ◌++◌, length, take, drop, set}
-use Rattle.std.proofs.Common.{sym, ap, ◌∙◌, append_assoc, append-nil, arith, zero-add, add-one, length-append, length-take, length-drop, take-append-drop, length-take-le, take-suc-set, drop-set-lt, drop-drop}
-use Rattle.std.proofs.lemmas.List.{set-append_left}
-use Rattle.std.proofs.Math.Seq.{take-set-lt}
+-- Bytes written over a buffer from one place on, and what stands before and after them stays.
+use Rattle.std.specs.Prelude.{ℕ, ◌+◌, ◌≤◌, ◌≡◌, refl, List, ◌++◌, length, take, drop}
+use Rattle.std.proofs.Common.{sym, ap, ◌∙◌, append_assoc, arith, zero-add, length-append, length-take, length-drop, length-take-le, take-append-drop, drop-drop}
+use Rattle.std.proofs.Math.Seq.{take-append_seam, drop-append_seam}
 
 -- There is room for the bytes.
 pub record Room (out : List ℕ) (at : ℕ) (bytes : List ℕ) : Type 0 where
@@ -14,44 +13,24 @@ pub record Wrote (out : List ℕ) (at : ℕ) (bytes out' : List ℕ) (end : ℕ)
   pub front : take end out' ≡ take at out ++ bytes
   pub rest : drop end out' ≡ drop end out
 
-module _ (out : List ℕ) (at : ℕ) where
-  pub wrote_nothing : Wrote out at [] out at
-  wrote_nothing = record { ends = omega arith; front = sym (append-nil (take at out)); rest = refl }
-
-  pub wrote_byte : (b : ℕ) → Room out at (b ∷ []) → Wrote out at (b ∷ []) (set out at b) (at + 1)
-  wrote_byte b room =
-      record {
-        ends = omega arith;
-        front = rw add-one (take-suc-set out at b (omega (arith, room.fits)));
-        rest = drop-set-lt (at + 1) out at b (omega arith);
-      }
-
-  -- A byte set just before what is written.
-  pub wrote_before :
-      (b : ℕ) {t out' : List ℕ} {end : ℕ} → Room out at (b ∷ []) → Wrote out (at + 1) t out' end → Wrote out at (b ∷ t) (set out' at b) end
-  wrote_before b {t} {out'} {end} room w =
-      let first = take-set-lt (at + 1) out at b (omega arith) in
-      let long = length-take-le (at + 1) out room.fits in
-      record {
-        ends = omega arith;
-        front =
-            take-set-lt end out' at b (omega arith)
-            ∙ ap (λ xs. set xs at b) w.front
-            ∙ set-append_left (take (at + 1) out) t at b (omega arith)
-            ∙ ap (λ xs. xs ++ t) (sym first ∙ (wrote_byte b room).front)
-            ∙ append_assoc (take at out) (b ∷ []) t;
-        rest = drop-set-lt end out' at b (omega arith) ∙ w.rest;
-      }
-
-pub wrote_then :
-    {out out₁ out₂ t u : List ℕ} {at mid end : ℕ} → Wrote out at t out₁ mid → Wrote out₁ mid u out₂ end → Wrote out at (t ++ u) out₂ end
-wrote_then {out} {out₁} {out₂} {t} {u} {at} {mid} {end} one next =
-    let further : drop end out₁ ≡ drop end out =
-    rw (next.ends, ← drop-drop (length u) mid out₁, ← drop-drop (length u) mid out) (ap (drop (length u)) one.rest) in
+-- They are, where they stand between what stood before and past them.
+pub wrote_between :
+    {out t : List ℕ} {at : ℕ} (k : ℕ) → k ≡ length t → Room out at t → Wrote out at t (take at out ++ (t ++ drop k (drop at out))) (at + length t)
+wrote_between {out} {t} {at} k e room =
+    let past = drop k (drop at out) in
+    let whole = sym (append_assoc (take at out) t past) in
+    let long : at + length t ≡ length (take at out ++ t) =
+    omega (arith, room.fits, length-append (take at out) t, length-take-le at out (omega (arith, room.fits))) in
+    let further : at + k ≡ at + length t = omega arith in
     record {
-      ends = omega (arith, one.ends, next.ends, length-append t u);
-      front = next.front ∙ ap (λ xs. xs ++ u) one.front ∙ append_assoc (take at out) t u;
-      rest = next.rest ∙ further;
+      ends = refl;
+      front = ap (take (at + length t)) whole ∙ ap (λ n. take n ((take at out ++ t) ++ past)) long ∙ take-append_seam (take at out ++ t) past;
+      rest =
+          ap (drop (at + length t)) whole
+          ∙ ap (λ n. drop n ((take at out ++ t) ++ past)) long
+          ∙ drop-append_seam (take at out ++ t) past
+          ∙ drop-drop k at out
+          ∙ ap (λ n. drop n out) further;
     }
 
 pub wrote_length : {out t out' : List ℕ} {at end : ℕ} → Room out at t → Wrote out at t out' end → length out' ≡ length out
@@ -81,11 +60,3 @@ wrote_from_start {out} {t} w = wrote_all w ∙ ap (λ n. t ++ drop n out) (zero-
 -- Two exits of the buffer, and two ends, that such a contract allows are one.
 pub wrote_settled : {out t a b : List ℕ} {at e f : ℕ} → Wrote out at t a e → Wrote out at t b f → (a ≡ b) × (e ≡ f)
 wrote_settled one other = (wrote_all one ∙ sym (wrote_all other), one.ends ∙ sym other.ends)
-
--- Room for two writes: for the first, and then for the second.
-pub room_first : {out t : List ℕ} {at : ℕ} (u : List ℕ) → Room out at (t ++ u) → Room out at t
-room_first {t = t} u room = record { fits = omega (arith, room.fits, length-append t u) }
-
-pub room_next : {out t u out₁ : List ℕ} {at mid : ℕ} → Room out at (t ++ u) → Wrote out at t out₁ mid → Room out₁ mid u
-room_next {t = t} {u = u} room w =
-    record { fits = omega (arith, room.fits, w.ends, length-append t u, wrote_length (room_first u room) w) }

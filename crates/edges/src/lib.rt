@@ -1,74 +1,52 @@
 // Reads one edge of a request.
 #![tactic(auto)]
 
-ghost use Rattle.std.specs.Prelude.{◌≡◌, ◌+◌, ◌*◌, ◌≤◌, length, [], ◌∷◌};
-ghost use Rattle.rules.specs.Fields.{E, E_from, E_to};
-ghost use Rattle.rules.specs.Records.{unless, first_fault, follows, above, edge_ranges, edge_at};
-ghost use Rattle.records.specs.Meaning.{meant};
+ghost use Rattle.std.specs.Prelude.{◌≡◌, ◌+◌, ◌≤◌, length};
+ghost use Rattle.rules.specs.Fields.{E_from, E_to, E_transfer};
+ghost use Rattle.rules.specs.Records.{first_fault, edge_ranges, edge_at};
+ghost use Rattle.records.specs.Meaning.{meant, meant_edge, Checked};
 
-use records::{Cursor, Record, RecordAnswer};
+use fields::Kind;
+use records::{Cursor, Edge, Read};
+use refusals::{Fault, Refusal};
 
-// 3 where the edge at `at`, with k before it, is not above the one before it, by from first and then to; else 0. The first has none before it.
-fn order_fault(s: &[u8], at: usize, k: usize) -> u64
-    requires { (at + 5 ≤ length s.now) × (k * 5 ≤ at) }
-    ensures { result ≡ first_fault (unless (follows E (above (E_from s.now) (E_to s.now)) at k) 3 ∷ []) }
+// The fields of the edge at `at`.
+#[tactic(auto, unfolding(rules::specs::Fields::E_from, rules::specs::Fields::E_to, rules::specs::Fields::E_transfer))]
+fn edge_at(s: &[u8], at: usize) -> Edge
+    requires { at + 5 ≤ length s.now }
+    ensures { result ≡ record { from = E_from s.now at; to = E_to s.now at; transfer = E_transfer s.now at } }
 {
-    if k == 0 {
-        return 0;
+    Edge {
+        from: fields::field(s, at, 1),
+        to: fields::field(s, at, 2),
+        transfer: fields::two_bytes(s, at, 3),
     }
-    let before = at - 5;
-    let before_from = fields::field(s, before, 1) as u64;
-    let before_to = fields::field(s, before, 2) as u64;
-    let from = fields::field(s, at, 1) as u64;
-    let to = fields::field(s, at, 2) as u64;
-    if fields::above(before_from, before_to, from, to) {
-        return 0;
-    }
-    3
 }
 
-// 4 where an edge's ends are not both below n and unequal, or its transfer is not in 0..1,000; else 0.
-fn range_fault(from: usize, to: usize, transfer: u64, n: usize) -> u64
-    ensures { result ≡ first_fault (edge_ranges from to transfer n) }
+// That an edge's ends are both below n and unequal, and its transfer in 0..1,000.
+#[tactic(auto, using(records::proofs::Laws::reading, std::proofs::lemmas::Bool::Decides::nat_tests), unfolding(rules::specs::Records::edge_ranges))]
+fn ranges(c: Cursor, edge: Edge, n: usize) -> Result<(), Refusal>
+    ensures { Checked (first_fault (edge_ranges edge.from edge.to edge.transfer n)) c.at result }
 {
-    if n <= from {
-        return 4;
-    }
-    if n <= to {
-        return 4;
-    }
-    if from == to {
-        return 4;
-    }
-    if fields::outside(0, transfer, 1_000) {
-        return 4;
-    }
-    0
+    c.check(edge.from < n, Fault::OutOfRange)?;
+    c.check(edge.to < n && edge.from != edge.to, Fault::OutOfRange)?;
+    c.in_range(0, edge.transfer, 1_000)
 }
 
 // `E` with k edges right before it: at most 512, in rising order, in range.
-pub fn read_edge(s: &[u8], c: Cursor, n: usize, k: usize) -> RecordAnswer
-    requires { k * 5 ≤ c.at }
-    ensures { meant result ≡ edge_at s.now n c.at k }
+#[tactic(auto, using(records::proofs::Laws::reading), unfolding(rules::specs::Records::edge_at, rules::specs::Records::follows, rules::specs::Records::above, rules::specs::Fields::size, rules::specs::Fields::body))]
+pub fn read_edge(s: &[u8], c: Cursor, n: usize, k: usize) -> Read<Edge>
+    ensures { meant meant_edge result ≡ edge_at s.now n c.at k }
 {
-    let at = c.at;
-    let fault = fields::opening_fault(s, at, b'E', 5);
-    if fault != 0 {
-        return RecordAnswer::Refused(fault, at);
-    }
-    if 512 <= k {
-        return RecordAnswer::Refused(4, at);
-    }
-    let from = fields::field(s, at, 1);
-    let to = fields::field(s, at, 2);
-    let transfer = fields::two_bytes(s, at, 3);
-    let order = order_fault(s, at, k);
-    let range = range_fault(from, to, transfer, n);
-    if order != 0 {
-        return RecordAnswer::Refused(order, at);
-    }
-    if range != 0 {
-        return RecordAnswer::Refused(range, at);
-    }
-    RecordAnswer::Read(Cursor { at: at + 5 }, Record::Edge { from, to, transfer })
+    let past = c.whole(s, Kind::Edge)?;
+    let before = edge_at(s, c.at.saturating_sub(Kind::Edge.size()));
+    let edge = edge_at(s, c.at);
+    c.check(k < 512, Fault::OutOfRange)?;
+    c.rises(
+        k,
+        (before.from as u64, before.to as u64),
+        (edge.from as u64, edge.to as u64),
+    )?;
+    ranges(c, edge, n)?;
+    Ok((edge, past))
 }

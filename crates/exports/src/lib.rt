@@ -1,5 +1,5 @@
 // What a program in C or Rust links: numbers, structs of numbers and slices. A slice is passed as its pointer and its length.
-#![tactic(auto)]
+#![tactic(auto, unfolding(choosing::specs::Named::meant_method))]
 
 ghost use Rattle.std.specs.Prelude.{◌≡◌};
 ghost use Rattle.label.specs.Label.{ListedTold, LabelLength};
@@ -10,13 +10,14 @@ ghost use Rattle.rules.specs.Text.{text_asked};
 ghost use Rattle.rules.specs.Range.{range};
 ghost use Rattle.rules.specs.Why.{why_not};
 ghost use Rattle.choosing.specs.Named.{meant_method};
+ghost use Rattle.lookup.specs.Lookup.{meant_part};
 ghost use Rattle.buffers.specs.Into.{four};
 ghost use Rattle.told.specs.Told.{told_costs, told_why};
 ghost use Rattle.exports.specs.Told.{told, told_part, PlanTold, TextTold};
 
 use choosing::Method;
-use reader::Reading;
-use text::Printed;
+use lookup::Part;
+use text::TooSmall;
 use told::{ZabgurinAnswer, ZabgurinCosts, ZabgurinWhy};
 
 // Whether a byte stands in the list.
@@ -38,7 +39,7 @@ pub extern "C" fn zabgurin_label_len(request: &[u8], at: usize) -> usize
 // What reading says. `number` is that of the refusal, 1 to 6, with its place; or 0 for a good request, with its numbers and where its parts begin. A
 // deadline of 0 is none. `share_given` is 1 where the budget is set by a share, else 0, and then `share` is 0 too.
 #[repr(C)]
-#[derive(Clone, Copy)]
+#[derive(Clone, Copy, Debug, Default, PartialEq, Eq)]
 pub struct ZabgurinReading {
     pub number: u64,
     pub place: usize,
@@ -61,14 +62,11 @@ pub struct ZabgurinReading {
 pub extern "C" fn zabgurin_read(request: &[u8]) -> ZabgurinReading
     ensures { result ≡ told (read_request request.now) }
 {
-    let answer = reader::read_request(request);
-    match answer {
-        Reading::Good(v) => {
+    match reader::read_request(request) {
+        Ok(v) => {
             let deadline = v.deadline;
             let share = v.share;
             ZabgurinReading {
-                number: 0,
-                place: 0,
                 tasks: v.tasks,
                 processors: v.processors,
                 budget: v.budget,
@@ -81,33 +79,34 @@ pub extern "C" fn zabgurin_read(request: &[u8]) -> ZabgurinReading
                 tasks_at: v.tasks_at,
                 edges_at: v.edges_at,
                 edges: v.edges,
+                ..ZabgurinReading::default()
             }
         }
-        Reading::Refused(number, place) => ZabgurinReading {
-            number,
-            place,
-            tasks: 0,
-            processors: 0,
-            budget: 0,
-            deadline: 0,
-            share_given: 0,
-            share: 0,
-            prices_at: 0,
-            windows_at: 0,
-            windows: 0,
-            tasks_at: 0,
-            edges_at: 0,
-            edges: 0,
+        Err(refusal) => ZabgurinReading {
+            number: refusal.fault.number(),
+            place: refusal.place as usize,
+            ..ZabgurinReading::default()
         },
     }
 }
 
-// A part of the request's bytes.
+// A part of the request's bytes. C knows it by this name and layout, so it is a type beside `lookup::Part`.
 #[repr(C)]
-#[derive(Clone, Copy)]
+#[derive(Clone, Copy, Debug, Default, PartialEq, Eq)]
 pub struct ZabgurinPart {
     pub begin: usize,
     pub length: usize,
+}
+
+impl From<Part> for ZabgurinPart {
+    ghost from_gives = { λ part told. told ≡ told_part (meant_part part) };
+
+    fn from(part: Part) -> ZabgurinPart {
+        ZabgurinPart {
+            begin: part.begin,
+            length: part.length,
+        }
+    }
 }
 
 // Where the label of a task stands in the request, without its spaces; of length 0, at the start, for a request that is refused in reading and for a task
@@ -116,11 +115,7 @@ pub struct ZabgurinPart {
 pub extern "C" fn zabgurin_label(request: &[u8], task: usize) -> ZabgurinPart
     ensures { result ≡ told_part (label_lookup request.now task) }
 {
-    let part = lookup::label_part(request, task);
-    ZabgurinPart {
-        begin: part.begin,
-        length: part.length,
-    }
+    ZabgurinPart::from(lookup::label_part(request, task))
 }
 
 // Plans a request by a method, its rows in four buffers: row i in the numbers at i. As many rows are lent as the shortest buffer has numbers. A plan writes rows 0
@@ -136,10 +131,10 @@ fn plan_by(
     ensures { PlanTold (meant_method method) request.now (four processors.old starts.old finishes.old costs.old) (four processors.new starts.new finishes.new costs.new) result }
 {
     let answer = buffers::plan_into(request, method, processors, starts, finishes, costs);
-    told::answer_told(answer)
+    ZabgurinAnswer::from(answer)
 }
 
-// Plans a request within its budget.
+// Plans a request within its budget. C calls each method by a name of its own, here and where a plan is printed.
 #[unsafe(no_mangle)]
 pub extern "C" fn zabgurin_plan(
     request: &[u8],
@@ -193,8 +188,7 @@ pub extern "C" fn zabgurin_heft(
 pub extern "C" fn zabgurin_range(request: &[u8]) -> ZabgurinCosts
     ensures { result ≡ told_costs (range request.now) }
 {
-    let costs = asked::range(request);
-    told::costs_told(costs)
+    ZabgurinCosts::from(asked::range(request))
 }
 
 // Why a task does not start at `start`, in the plan within its budget, with 64 rows lent.
@@ -202,8 +196,7 @@ pub extern "C" fn zabgurin_range(request: &[u8]) -> ZabgurinCosts
 pub extern "C" fn zabgurin_why(request: &[u8], task: usize, start: u64) -> ZabgurinWhy
     ensures { result ≡ told_why (why_not request.now task start) }
 {
-    let why = sooner::why_not(request, task, start);
-    told::why_told(why)
+    ZabgurinWhy::from(sooner::why_not(request, task, start))
 }
 
 // Prints the plan of a request by a method, with 64 rows lent, or the refusal. Answers how many bytes the text has. Where the buffer has room for them they stand at its
@@ -211,10 +204,9 @@ pub extern "C" fn zabgurin_why(request: &[u8], task: usize, start: u64) -> Zabgu
 fn print_by(request: &[u8], method: Method, out: &mut [u8]) -> usize
     ensures { TextTold (text_asked (meant_method method) request.now) out.old out.new result }
 {
-    let printed = text::print(request, method, out);
-    match printed {
-        Printed::Whole(length) => length,
-        Printed::TooSmall(length) => length,
+    match text::print(request, method, out) {
+        Ok(length) => length,
+        Err(TooSmall { needed }) => needed,
     }
 }
 

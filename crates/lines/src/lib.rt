@@ -1,111 +1,67 @@
-// The lines of the printed plan, written over a lent buffer: the first line, and those of the rows; and the line of the range.
+// The lines of the printed plan, appended to a text: the first line, and those of the rows; and the line of the range.
 #![tactic(auto)]
 
-ghost use Rattle.std.specs.Prelude.{◌≤◌};
+ghost use Rattle.std.specs.Prelude.{◌≡◌, ◌+◌, ◌≤◌, ◌++◌, length};
+ghost use Rattle.rules.specs.Answer.{refused};
 ghost use Rattle.rules.specs.Text.{first_line};
 ghost use Rattle.rules.specs.Range.{range_line};
-ghost use Rattle.reader.specs.Meaning.{ViewOf};
 ghost use Rattle.planner.specs.Planned.{meant_answer, meant_costs};
-ghost use Rattle.decimals.specs.Wrote.{Room, Wrote};
-ghost use Rattle.lines.specs.Lines.{two_line, column_lines, fields_line};
+ghost use Rattle.lines.specs.Lines.{column_lines};
 
-use planner::{Answer, Costs};
-use reader::View;
+use budgets::Rows;
+use decimals::Text;
+use lookup::Request;
+use planner::{Answer, Range};
+use refusals::Refusal;
 
-// What opens a line, and two numbers to its end.
-fn put_two(out: &mut [u8], opening: &[u8], a: u64, b: u64) -> usize
-    requires { Room out.old 0 (two_line opening.now a b) }
-    ensures { Wrote out.old 0 (two_line opening.now a b) out.new result }
+// "`no `, number, place"
+#[tactic(auto, unfolding(rules::specs::Text::first_line, rules::specs::Text::line, rules::specs::Text::bytes))]
+pub fn put_refusal<const N: usize>(text: &mut Text<N>, number: u64, place: u64)
+    requires { length text.old + length (first_line (refused number place)) ≤ N }
+    ensures { text.new ≡ text.old ++ first_line (refused number place) }
 {
-    let opened = decimals::put_bytes(out, 0, opening);
-    let parted = decimals::put_field(out, opened, a, b' ');
-    decimals::put_field(out, parted, b, b'\n')
+    text.line(b"no", &[number, place]);
 }
 
 // "`plan `, n, length, cost, budget left, [..]; or `no `, number, place"
-pub fn put_first_line(out: &mut [u8], answer: Answer) -> usize
-    requires { Room out.old 0 (first_line (meant_answer answer)) }
-    ensures { Wrote out.old 0 (first_line (meant_answer answer)) out.new result }
+#[tactic(auto, unfolding(rules::specs::Text::first_line, rules::specs::Text::line, rules::specs::Text::bytes))]
+pub fn put_first_line<const N: usize>(text: &mut Text<N>, answer: Answer)
+    requires { length text.old + length (first_line (meant_answer answer)) ≤ N }
+    ensures { text.new ≡ text.old ++ first_line (meant_answer answer) }
 {
     match answer {
-        Answer::Planned {
-            n,
-            length,
-            cost,
-            left,
-        } => {
-            let opened = decimals::put_bytes(out, 0, b"plan ");
-            decimals::put_four(out, opened, n, length, cost, left)
-        }
-        Answer::Refused { number, place } => put_two(out, b"no ", number, place),
+        Ok(plan) => text.line(b"plan", &[plan.n, plan.length, plan.cost, plan.left]),
+        Err(refusal) => put_refusal(text, refusal.fault.number(), refusal.place),
     }
 }
 
 // "`range `, the cheapest plan's cost, the HEFT plan's cost; or `no `, number, place"
-pub fn put_range_line(out: &mut [u8], costs: Costs) -> usize
-    requires { Room out.old 0 (range_line (meant_costs costs)) }
-    ensures { Wrote out.old 0 (range_line (meant_costs costs)) out.new result }
+#[tactic(auto, unfolding(rules::specs::Range::range_line, rules::specs::Text::line, rules::specs::Text::bytes))]
+pub fn put_range_line<const N: usize>(text: &mut Text<N>, costs: Result<Range, Refusal>)
+    requires { length text.old + length (range_line (meant_costs costs)) ≤ N }
+    ensures { text.new ≡ text.old ++ range_line (meant_costs costs) }
 {
     match costs {
-        Costs::Between { cheapest, heft } => put_two(out, b"range ", cheapest, heft),
-        Costs::Refused { number, place } => {
-            put_first_line(out, Answer::Refused { number, place })
-        }
+        Ok(range) => text.line(b"range", &[range.cheapest, range.heft]),
+        Err(refusal) => put_refusal(text, refusal.fault.number(), refusal.place),
     }
 }
 
-// "label, processor, start, finish, cost"
-fn put_row(
-    out: &mut [u8],
-    at: usize,
-    name: &[u8],
-    processor: u64,
-    start: u64,
-    finish: u64,
-    cost: u64,
-) -> usize
-    requires { Room out.old at (fields_line name.now processor start finish cost) }
-    ensures { Wrote out.old at (fields_line name.now processor start finish cost) out.new result }
+// "one line per task: label, processor, start, finish, cost", of the first n tasks.
+pub fn put_rows<const N: usize>(text: &mut Text<N>, r: &Request<'_>, n: usize, rows: &Rows)
+    requires n_le_tasks { n ≤ r.now.view.tasks }
+    requires room { length text.old + length (column_lines n r.now.bytes.now rows.now.processors rows.now.starts rows.now.finishes rows.now.costs) ≤ N }
+    ensures { text.new ≡ text.old ++ column_lines n r.now.bytes.now rows.now.processors rows.now.starts rows.now.finishes rows.now.costs }
 {
-    let named = decimals::put_bytes(out, at, name);
-    let parted = decimals::put_byte(out, named, b' ');
-    decimals::put_four(out, parted, processor, start, finish, cost)
-}
-
-// "one line per task", of the first n tasks.
-pub fn put_rows<'a>(
-    out: &mut [u8],
-    at: usize,
-    s: &[u8],
-    v: View,
-    n: usize,
-    processors: &'a [u64; 64],
-    starts: &'a [u64; 64],
-    finishes: &'a [u64; 64],
-    costs: &'a [u64; 64],
-) -> usize
-    requires view_of { ViewOf s.now v }
-    requires n_le_tasks { n ≤ v.tasks }
-    requires room { Room out.old at (column_lines n s.now processors.now starts.now finishes.now costs.now) }
-    ensures { Wrote out.old at (column_lines n s.now processors.now starts.now finishes.now costs.now) out.new result }
-{
-    let mut end = at;
-    let mut i = 0;
-    while i < n {
-        let part = lookup::label_of(s, v, i);
-        let begin = part.begin;
-        let length = part.length;
-        let past = begin + length;
-        end = put_row(
-            out,
-            end,
-            &s[begin..past],
-            processors[i],
-            starts[i],
-            finishes[i],
-            costs[i],
-        );
-        i += 1;
+    for i in 0..n {
+        let part = r.label(i);
+        let past = part.begin + part.length;
+        let numbers = [
+            rows.processors[i],
+            rows.starts[i],
+            rows.finishes[i],
+            rows.costs[i],
+        ];
+        text.line(&r.bytes[part.begin..past], &numbers);
     }
-    end
 }

@@ -1,11 +1,11 @@
 -- Records of one kind that stand one after the other, edges or windows, as the loop over them meets them.
-use mathlib.Core.Path.{◌≡◌, sym, ◌∙◌}
+use mathlib.Core.Path.{◌≡◌, sym, ◌∙◌, subst}
 use Prim.Native.Nat.{ℕ, suc, ◌+◌, ◌*◌, ◌-◌, ◌<◌, ◌≤◌}
 use native.Mathlib.Nat.{add-mul}
 use native.Mathlib.Omega.{arith}
 use mathlib.Core.List.{List}
 use lib.Dec.{eqb}
-use borrow.Author.Tests.{eq-eqb, ne_eqb}
+use Rattle.std.specs.Prelude.{true, false}
 use Rattle.rules.specs.Fields.{Kind, kind_byte, size, byte}
 use Rattle.rules.specs.Records.{Record, Read, read, stopped}
 use Rattle.rules.specs.Reading.{then, counted, how_many, run_part}
@@ -31,11 +31,12 @@ module _ {s : List ℕ} {kind : Kind} {part : ℕ → ℕ → Read Record} {at m
   all_run all = rw (all, run.reached.so_far)
 
   -- As many as may stand there.
-  pub full : most ≤ k → read next k ≡ run_part s kind part at most
+  pub full : most ≤ k → read next most ≡ run_part s kind part at most
   unfolding how_many
   full h =
       let none : most - k ≡ 0 = omega arith in
-      all_run (sym (rw none at run.others) ∙ omega arith)
+      let same : most ≡ k = omega (arith, run.few) in
+      subst (λ j. read next j ≡ run_part s kind part at most) (sym same) (all_run (sym (rw none at run.others) ∙ omega arith))
 
   module _ (room : k < most) where
     -- What is counted from `next` on, by the record that stands there.
@@ -47,15 +48,15 @@ module _ {s : List ℕ} {kind : Kind} {part : ℕ → ℕ → Read Record} {at m
         sym (rw one at run.others)
 
     -- A record of another kind, or none.
-    pub ended : (byte s next ≡ kind_byte kind → ⊥) → read next k ≡ run_part s kind part at most
+    pub ended : eqb (byte s next) (kind_byte kind) ≡ false → read next k ≡ run_part s kind part at most
     unfolding counted
-    ended other = all_run (rw (ne_eqb _ _ other) at in_all ∙ omega arith)
+    ended other = all_run (rw other at in_all ∙ omega arith)
 
     -- One more of this kind was read, or refused.
-    module _ (of_kind : byte s next ≡ kind_byte kind) {here : Read Record} (is : here ≡ part next k) where
+    module _ (of_kind : eqb (byte s next) (kind_byte kind) ≡ true) {here : Read Record} (is : here ≡ part next k) where
       counted_one : how_many s kind at most ≡ k + suc (how_many s kind (next + size kind) (most - (k + 1)))
       unfolding counted
-      counted_one = rw (eq-eqb _ _ of_kind) at in_all
+      counted_one = rw of_kind at in_all
 
       pub one_more_run : Steps part (size kind) → {after : ℕ} {r : Record} → here ≡ read after r → Run s kind part at most (k + 1) after
       one_more_run steps {after} {r} e =

@@ -1,23 +1,20 @@
 -- What the code's answers mean: for each case the rules' own, with document 01's number and place for a refusal.
-use Rattle.std.specs.Prelude.{ℕ}
+use Rattle.std.specs.Prelude.{ℕ, ◌≡◌, Result, Ok, Err}
+use Rattle.refusals.specs.declared.Refusal.{Refusal}
+use Rattle.refusals.specs.Numbers.{number}
 use Rattle.rules.specs.Records.{Read, read, stopped}
-use Rattle.records.specs.declared.RecordAnswer.{RecordAnswer}
-use Rattle.records.specs.declared.RecordAnswer.TheVariants as records
-use Rattle.parts.specs.declared.Passed.{Passed}
-use Rattle.parts.specs.declared.Passed.TheVariants as passed
-use Rattle.parts.specs.declared.RunPart.{RunPart}
+use Rattle.rules.specs.Reading.{then}
+use Rattle.records.specs.declared.Cursor.{Cursor}
 
 -- A part of the request that has a value: the place past it and the value, or the refusal.
-abbrev pub meant_part : {A : Type 0} → Passed → A → Read A
-meant_part (passed.To next) a = read next.at a
-meant_part (passed.Refused number place) a = stopped number place
+abbrev pub meant_part : {A : Type 0} → Result Cursor Refusal → A → Read A
+meant_part (Ok next) a = read next.at a
+meant_part (Err r) a = stopped (number r.fault) r.place
 
--- The records of one kind that were read, and how many; or the refusal, and none.
-abbrev pub run_of : Read ℕ → RunPart
-run_of (read next k) = record { passed = passed.To (record { at = next }); count = k }
-run_of (stopped number place) = record { passed = passed.Refused number place; count = 0 }
+-- The place past what was read, or the refusal.
+abbrev pub past : {A : Type 0} → Read A → Read (Unit {0})
+past x = then x (λ next _. read next tt)
 
--- A record's refusal as that of its part.
-abbrev pub past : RecordAnswer → Passed
-past (records.Read next r) = passed.To next
-past (records.Refused number place) = passed.Refused number place
+-- Calls read the part that is due where they begin: each answers, by where it began and how many parts came before it, as the rules do.
+abbrev pub Reads : (Cursor → ℕ → Result Cursor Refusal → Type 0) → (ℕ → ℕ → Read (Unit {0})) → Type 0
+Reads answers part = (c : Cursor) (k : ℕ) (r : Result Cursor Refusal) → answers c k r → meant_part r tt ≡ part c.at k

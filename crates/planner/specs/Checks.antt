@@ -51,13 +51,12 @@ module _ (W : Workflow) where
 
 -- The others have no later check; and but for them there is HBCS alone.
 pub alone_later : (M : Name) (share : Share) (W : Workflow) → held_to_none M ≡ true → later_by M (held_to M share W) ≡ plan_alone M W
-unfolding held_to_none later_checks plan_alone held_to
+unfolding later_checks plan_alone held_to
 alone_later by_HBCS share W e = absurd (false≢true e)
 alone_later by_cheapest share W e = refl
 alone_later by_HEFT share W e = refl
 
 pub within_else : (M : Name) (share : Share) (W : Workflow) → held_to_none M ≡ false → later_by M (held_to M share W) ≡ later_by by_HBCS (held_to by_HBCS share W)
-unfolding held_to_none
 within_else by_HBCS share W e = refl
 within_else by_cheapest share W e = absurd (false≢true (sym e))
 within_else by_HEFT share W e = absurd (false≢true (sym e))

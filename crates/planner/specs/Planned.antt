@@ -1,29 +1,39 @@
--- What the planner's answers and arrays mean.
-use Rattle.std.specs.Prelude.{ℕ, ◌≡◌, List, []}
+-- What the planner's answers and rows mean.
+use Rattle.std.specs.Prelude.{ℕ, ◌≡◌, List, [], Result, Ok, Err}
 use Rattle.rules.specs.Workflow.{Workflow}
 use Rattle.rules.specs.Rows.{Placed}
 use Rattle.rules.specs.Method.{Name}
 use Rattle.rules.specs.Budget.{unbound, workflow_for}
 use Rattle.rules.specs.Answer as rules
-use Rattle.rules.specs.Range.{Range, between, no_range}
+use Rattle.rules.specs.Range as ranges
+use Rattle.refusals.specs.declared.Refusal.{Refusal}
+use Rattle.refusals.specs.Numbers.{number}
 use Rattle.reader.specs.declared.View.{View}
 use Rattle.reader.specs.Meaning.{meant_view}
-use Rattle.placing.specs.Placed.{Columns, all_rows}
-use Rattle.planner.specs.declared.Answer.{Answer}
-use Rattle.planner.specs.declared.Answer.TheVariants as answer
-use Rattle.planner.specs.declared.Costs.{Costs}
-use Rattle.planner.specs.declared.Costs.TheVariants as costs
+use Rattle.placing.specs.Placed.{all_rows}
+use Rattle.budgets.specs.declared.Rows.{Rows}
+use Rattle.budgets.specs.Prepared.{RowsAre}
+use Rattle.planner.specs.declared.Summary.{Summary}
+use Rattle.planner.specs.declared.Range.{Range}
 use Rattle.planner.specs.declared.Planning.{Planning}
 
+-- A plan's summary, or the refusal.
+abbrev pub Answer : Type 0
+Answer = Result Summary Refusal
+
+-- The two costs, or the refusal.
+abbrev pub Costs : Type 0
+Costs = Result Range Refusal
+
 -- What the code's answer means: document 01's summary, or its number and place.
-unfoldable pub meant_answer : Answer → rules.Answer
-meant_answer (answer.Planned n length cost left) = rules.planned n length cost left
-meant_answer (answer.Refused number place) = rules.refused number place
+abbrev pub meant_answer : Answer → rules.Answer
+meant_answer (Ok plan) = rules.planned plan.n plan.length plan.cost plan.left
+meant_answer (Err r) = rules.refused (number r.fault) r.place
 
 -- What the code's costs mean: the range.
-unfoldable pub meant_costs : Costs → Range
-meant_costs (costs.Between cheapest heft) = between cheapest heft
-meant_costs (costs.Refused number place) = no_range number place
+abbrev pub meant_costs : Costs → ranges.Range
+meant_costs (Ok range) = ranges.between range.cheapest range.heft
+meant_costs (Err r) = ranges.no_range (number r.fault) r.place
 
 -- The rows of an outcome; a refusal has none.
 unfoldable pub rows_in : rules.Outcome → List Placed
@@ -33,12 +43,11 @@ rows_in (rules.refusal number place) = []
 -- The answer is the outcome's, and the four arrays hold its rows.
 pub record PlanOf (o : rules.Outcome) (r : Planning) : Type 0 where
   pub answer_is : meant_answer r.answer ≡ rules.answer_of o
-  pub columns : Columns (rows_in o) r.processors r.starts r.finishes r.costs
+  pub columns : RowsAre (rows_in o) r.rows
 
--- The answer, and four arrays that were lent for the rows, as one plan.
-abbrev pub planned_in : (processors starts finishes costs : List ℕ) → Answer → Planning
-planned_in processors starts finishes costs r =
-    record { answer = r; processors = processors; starts = starts; finishes = finishes; costs = costs }
+-- The answer, and the rows that were lent for it, as one plan.
+abbrev pub planned_in : Rows → Answer → Planning
+planned_in rows r = record { answer = r; rows = rows }
 
 -- The workflow of a good request, by its view, with what is in force by the method that is asked for.
 abbrev pub workflow_by : Name → List ℕ → View → Workflow
@@ -52,6 +61,6 @@ later_by M W = rules.later_checks M W (all_rows M W)
 unfoldable pub plan_alone : Name → Workflow → rules.Outcome
 plan_alone M W = rules.plan (unbound W) (all_rows M (unbound W))
 
-unfoldable pub rows_told : Answer → ℕ
-rows_told (answer.Planned n length cost left) = n
-rows_told (answer.Refused number place) = 0
+abbrev pub rows_told : Answer → ℕ
+rows_told (Ok plan) = plan.n
+rows_told (Err r) = 0

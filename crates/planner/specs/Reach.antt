@@ -1,6 +1,6 @@
 -- A plan's rows are in reach: at most as many as are lent, by refusal 7, and as there are tasks, so at most 64. So a column of 64 numbers has them all,
 -- and a buffer has room.
-use Rattle.std.specs.Prelude.{ℕ, ◌≤◌, min, ◌≡◌, refl, Bool, true, false, List, ltb}
+use Rattle.std.specs.Prelude.{ℕ, ◌≤◌, min, ◌≡◌, refl, Bool, true, false, List, Ok, Err, ltb}
 use Rattle.std.proofs.Common.{ap, ◌∙◌, arith, ltb-false}
 use Rattle.rules.specs.Records.{Read, read, stopped}
 use Rattle.rules.specs.Reading.{Request, read_request}
@@ -16,9 +16,7 @@ use Rattle.rules.specs.Answer.{Outcome, plan, refuse, too_late, placed_outcome, 
 use Rattle.rules.specs.Answer.{answer_of}
 use Rattle.laws.specs.InForce.{tasks_held}
 use Rattle.good.specs.ReadIsGood.{read_is_good}
-use Rattle.planner.specs.declared.Answer.{Answer}
-use Rattle.planner.specs.declared.Answer.TheVariants as answer
-use Rattle.planner.specs.Planned.{meant_answer, rows_told}
+use Rattle.planner.specs.Planned.{Answer, meant_answer, rows_told}
 
 -- How many rows come with an answer of the rules.
 unfoldable pub rows_due : rules.Answer → ℕ
@@ -26,9 +24,9 @@ rows_due (rules.planned n length cost left) = n
 rows_due (rules.refused number place) = 0
 
 rows_told_due : (a : Answer) → rows_told a ≡ rows_due (meant_answer a)
-unfolding rows_told rows_due meant_answer
-rows_told_due (answer.Planned n length cost left) = refl
-rows_told_due (answer.Refused number place) = refl
+unfolding rows_due
+rows_told_due (Ok told) = refl
+rows_told_due (Err refused) = refl
 
 -- A check that refuses gives no row.
 refused_or : (t : Bool) (number place most : ℕ) (later : Outcome) → (t ≡ false → rows_due (answer_of later) ≤ most)

@@ -1,136 +1,88 @@
-// The plan of a good request by the method that is asked for: the answer, and its rows in four arrays.
+// The plan of a good request by the method that is asked for: the answer, and the rows.
 #![tactic(auto)]
 
-ghost use Rattle.std.specs.Prelude.{◌≡◌, false, []};
+ghost use Rattle.std.specs.Prelude.{◌≡◌, false, [], Ok};
 ghost use Rattle.rules.specs.Cycle.{cyclic};
 ghost use Rattle.rules.specs.Method.{by_HBCS};
 ghost use Rattle.rules.specs.Answer.{outcome_by};
 ghost use Rattle.choosing.specs.Named.{meant_method};
-ghost use Rattle.reader.specs.Meaning.{ViewOf};
-ghost use Rattle.lookup.specs.Lookup.{workflow_of};
+ghost use Rattle.lookup.specs.Flow.{flow};
 ghost use Rattle.successors.specs.Begins.{BeginsFrom};
-ghost use Rattle.placing.specs.Placed.{RanksOf, Columns};
-ghost use Rattle.budgets.specs.Prepared.{Prepared};
+ghost use Rattle.placing.specs.Placed.{RanksOf};
+ghost use Rattle.budgets.specs.Prepared.{IsPrepared, RowsAre};
 ghost use Rattle.planner.specs.Planned.{PlanOf, planned_in, workflow_by, later_by, plan_alone, rows_told};
 
+use budgets::{Prepared, Rows};
 use choosing::Method;
-use reader::View;
+use lookup::Request;
+use refusals::{Fault, Refusal};
+
+// "a plan summary (n, length, cost, budget left)"
+#[derive(Clone, Copy, Debug, PartialEq, Eq)]
+pub struct Summary {
+    pub n: u64,
+    pub length: u64,
+    pub cost: u64,
+    pub left: u64,
+}
 
 // "Either a plan summary (n, length, cost, budget left) or a refusal (number, place)."
-#[derive(Clone, Copy)]
-pub enum Answer {
-    Planned {
-        n: u64,
-        length: u64,
-        cost: u64,
-        left: u64,
-    },
-    Refused {
-        number: u64,
-        place: u64,
-    },
-}
+pub type Answer = Result<Summary, Refusal>;
 
-// The answer, and the rows of all tasks in four arrays; 0 past the last task, and in all of them for a refusal.
-#[derive(Clone, Copy)]
+// The answer, and the rows of all tasks; a refusal has none.
+#[derive(Clone, Copy, Debug, PartialEq, Eq)]
 pub struct Planning {
     pub answer: Answer,
-    pub processors: [u64; 64],
-    pub starts: [u64; 64],
-    pub finishes: [u64; 64],
-    pub costs: [u64; 64],
+    pub rows: Rows,
 }
 
-// "the cheapest plan's cost, the HEFT plan's cost; or the refusal": number, place.
-#[derive(Clone, Copy)]
-pub enum Costs {
-    Between { cheapest: u64, heft: u64 },
-    Refused { number: u64, place: u64 },
+// "the cheapest plan's cost, the HEFT plan's cost"
+#[derive(Clone, Copy, Debug, PartialEq, Eq)]
+pub struct Range {
+    pub cheapest: u64,
+    pub heft: u64,
 }
 
 // HBCS: check 9, placing within the budget in force, and check 11, which takes the rows back.
-fn plan_within<'a>(
-    s: &[u8],
-    v: View,
-    prices: &'a [u64; 16],
-    minimums: &'a [u64; 16],
-    ranks: &[u64; 64],
-    edges_at: &[u16; 65],
-    cheapest: u64,
-    processors: &mut [u64; 64],
-    starts: &mut [u64; 64],
-    finishes: &mut [u64; 64],
-    costs: &mut [u64; 64],
-) -> Answer
-    requires prepared { Prepared s.now v prices.now minimums.now ranks.now edges_at.now cheapest }
-    requires columns { Columns [] processors.old starts.old finishes.old costs.old }
-    ensures { PlanOf (later_by by_HBCS (workflow_by by_HBCS s.now v)) (planned_in processors.new starts.new finishes.new costs.new result) }
+fn plan_within(r: &Request<'_>, prepared: &Prepared, rows: &mut Rows) -> Answer
+    requires prepared { IsPrepared r.now.bytes.now r.now.view prepared.now }
+    requires none { RowsAre [] rows.old }
+    ensures { PlanOf (later_by by_HBCS (workflow_by by_HBCS r.now.bytes.now r.now.view)) (planned_in rows.new result) }
 {
-    let in_force = budgets::budget_of(
-        s, v, prices, minimums, ranks, edges_at, cheapest, processors, starts, finishes, costs,
-    );
+    let cheapest = prepared.cheapest;
+    let in_force = budgets::budget_of(r, prepared, rows);
     if in_force < cheapest {
-        return Answer::Refused {
-            number: 9,
+        return Err(Refusal {
+            fault: Fault::LowBudget,
             place: cheapest,
-        };
+        });
     }
-    let p = budgets::place_all(
-        s,
-        v,
-        Method::Hbcs,
-        in_force,
-        prices,
-        minimums,
-        ranks,
-        edges_at,
-        cheapest,
-        processors,
-        starts,
-        finishes,
-        costs,
-    );
-    let deadline = v.deadline;
+    let p = budgets::place_all(r, Method::Hbcs, in_force, prepared, rows);
+    let deadline = r.view.deadline;
     if budgets::too_late(deadline, p.length) {
-        budgets::no_rows(processors, starts, finishes, costs);
-        return Answer::Refused {
-            number: 11,
+        *rows = Rows::none();
+        return Err(Refusal {
+            fault: Fault::Late,
             place: p.length,
-        };
+        });
     }
-    Answer::Planned {
-        n: v.tasks as u64,
+    Ok(Summary {
+        n: r.view.tasks as u64,
         length: p.length,
         cost: p.cost,
         left: p.left,
-    }
+    })
 }
 
 // "Asked for alone, these two are held to no budget", so that nothing is left of it.
-fn plan_alone<'a>(
-    s: &[u8],
-    v: View,
-    method: Method,
-    prices: &'a [u64; 16],
-    minimums: &'a [u64; 16],
-    ranks: &[u64; 64],
-    edges_at: &[u16; 65],
-    cheapest: u64,
-    processors: &mut [u64; 64],
-    starts: &mut [u64; 64],
-    finishes: &mut [u64; 64],
-    costs: &mut [u64; 64],
-) -> Answer
-    requires prepared { Prepared s.now v prices.now minimums.now ranks.now edges_at.now cheapest }
-    requires columns { Columns [] processors.old starts.old finishes.old costs.old }
-    ensures { PlanOf (plan_alone (meant_method method) (workflow_of s.now v)) (planned_in processors.new starts.new finishes.new costs.new result) }
+fn plan_alone(r: &Request<'_>, method: Method, prepared: &Prepared, rows: &mut Rows) -> Summary
+    requires prepared { IsPrepared r.now.bytes.now r.now.view prepared.now }
+    requires none { RowsAre [] rows.old }
+    ensures { PlanOf (plan_alone (meant_method method) (flow r.now)) (planned_in rows.new (Ok result)) }
 {
-    let q = budgets::place_all(
-        s, v, method, 0, prices, minimums, ranks, edges_at, cheapest, processors, starts, finishes,
-        costs,
-    );
-    Answer::Planned {
-        n: v.tasks as u64,
+    let q = budgets::place_all(r, method, 0, prepared, rows);
+    Summary {
+        n: r.view.tasks as u64,
         length: q.length,
         cost: q.cost,
         left: 0,
@@ -139,104 +91,51 @@ fn plan_alone<'a>(
 
 // What the processors charge is read once. Then the plan by the method.
 fn plan_ranked(
-    s: &[u8],
-    v: View,
+    r: &Request<'_>,
     method: Method,
     ranks: &[u64; 64],
     edges_at: &[u16; 65],
-    processors: &mut [u64; 64],
-    starts: &mut [u64; 64],
-    finishes: &mut [u64; 64],
-    costs: &mut [u64; 64],
+    rows: &mut Rows,
 ) -> Answer
-    requires view_of { ViewOf s.now v }
-    requires ranks_of { RanksOf (workflow_of s.now v) ranks.now }
-    requires v_value { (cyclic (workflow_of s.now v) ≡ false) × BeginsFrom (workflow_of s.now v) 0 edges_at.now }
-    requires columns { Columns [] processors.old starts.old finishes.old costs.old }
-    ensures { PlanOf (later_by (meant_method method) (workflow_by (meant_method method) s.now v)) (planned_in processors.new starts.new finishes.new costs.new result) }
+    requires ranks_of { RanksOf (flow r.now) ranks.now }
+    requires v_value { (cyclic (flow r.now) ≡ false) × BeginsFrom (flow r.now) 0 edges_at.now }
+    requires none { RowsAre [] rows.old }
+    ensures { PlanOf (later_by (meant_method method) (workflow_by (meant_method method) r.now.bytes.now r.now.view)) (planned_in rows.new result) }
 {
-    let charges = charges::charges_of(s, v);
-    let cheapest = costs::cheapest_total(s, v, &charges.prices, &charges.minimums);
-    if budgets::alone(method) {
-        return plan_alone(
-            s,
-            v,
-            method,
-            &charges.prices,
-            &charges.minimums,
-            ranks,
-            edges_at,
-            cheapest,
-            processors,
-            starts,
-            finishes,
-            costs,
-        );
-    }
-    plan_within(
-        s,
-        v,
-        &charges.prices,
-        &charges.minimums,
+    let charges = charges::charges_of(r);
+    let cheapest = costs::cheapest_total(r, &charges.prices, &charges.minimums);
+    let prepared = Prepared {
+        charges: &charges,
         ranks,
         edges_at,
         cheapest,
-        processors,
-        starts,
-        finishes,
-        costs,
-    )
+    };
+    if budgets::alone(method) {
+        return Ok(plan_alone(r, method, &prepared, rows));
+    }
+    plan_within(r, &prepared, rows)
 }
 
-// The plan of a good request, by its view, with so many rows lent: checks 7 and 8, then the rest. Its rows stand in four lent arrays, which have none at first;
-// 0 past the last task, and in all of them for a refusal.
-pub fn plan_good(
-    s: &[u8],
-    v: View,
-    method: Method,
-    lent: usize,
-    processors: &mut [u64; 64],
-    starts: &mut [u64; 64],
-    finishes: &mut [u64; 64],
-    costs: &mut [u64; 64],
-) -> Answer
-    requires view_of { ViewOf s.now v }
-    requires columns { Columns [] processors.old starts.old finishes.old costs.old }
-    ensures { PlanOf (outcome_by (meant_method method) (workflow_by (meant_method method) s.now v) lent) (planned_in processors.new starts.new finishes.new costs.new result) }
+// The plan of a good request, by its view, with so many rows lent: checks 7 and 8, then the rest. No task has a row at first; the tasks of a plan have theirs then,
+// and for a refusal none has one.
+pub fn plan_good(r: &Request<'_>, method: Method, lent: usize, rows: &mut Rows) -> Answer
+    requires { RowsAre [] rows.old }
+    ensures { PlanOf (outcome_by (meant_method method) (workflow_by (meant_method method) r.now.bytes.now r.now.view) lent) (planned_in rows.new result) }
 {
-    if lent < v.tasks {
-        return Answer::Refused {
-            number: 7,
-            place: v.tasks as u64,
-        };
+    if lent < r.view.tasks {
+        return Err(Refusal::at(Fault::FewRows, r.view.tasks));
     }
-    let edges_at = successors::begins_all(s, v);
+    let edges_at = successors::begins_all(r);
     let mut ranks = [0u64; 64];
-    if ranking::rank_all(s, v, &edges_at, &mut ranks) {
-        return plan_ranked(
-            s, v, method, &ranks, &edges_at, processors, starts, finishes, costs,
-        );
+    if !ranking::rank_all(r, &edges_at, &mut ranks) {
+        return Err(Refusal::at(Fault::Cycle, cycles::lowest_in_cycle(r)));
     }
-    Answer::Refused {
-        number: 8,
-        place: cycles::lowest_in_cycle(s, v) as u64,
-    }
+    plan_ranked(r, method, &ranks, &edges_at, rows)
 }
 
 // How many rows an answer comes with.
 pub fn rows_of(answer: Answer) -> u64
     ensures { result ≡ rows_told answer }
 {
-    match answer {
-        Answer::Planned {
-            n,
-            length: _,
-            cost: _,
-            left: _,
-        } => n,
-        Answer::Refused {
-            number: _,
-            place: _,
-        } => 0,
-    }
+    answer.map_or(0, |plan| plan.n)
 }

@@ -1,7 +1,8 @@
 // What the programs write: a text in a lent buffer, and how many bytes of it.
 #![tactic(auto)]
 
-ghost use Rattle.std.specs.Prelude.{◌≡◌, ◌-◌, ◌≤◌};
+ghost use Rattle.std.specs.Prelude.{◌≡◌, ◌≤◌, ℕ, length, take, OnOk};
+ghost use Rattle.std.specs.Io.KnownBytes.{Appends};
 ghost use Rattle.io.specs.Counts.{IsPrefixLen};
 ghost use Rattle.rules.specs.Text.{text_asked};
 ghost use Rattle.rules.specs.Range.{range_text};
@@ -11,10 +12,12 @@ ghost use Rattle.programs.specs.Spelled.{number_of};
 ghost use Rattle.programs.specs.Told.{to_write, TextIn};
 
 use choosing::Method;
-use std::io::Read;
-use text::Printed;
+use std::io;
+use std::io::{Read, Write};
+use text::TooSmall;
 
-// Reads until the buffer is full, or the input ends or cannot be read. Answers how many bytes came.
+// Reads until the buffer is full, or the input ends or cannot be read. Answers how many bytes came. It counts them itself: after an `Err`, std's `read_exact` does
+// not say how many came, and its `read_to_end` wants a `Vec`.
 pub fn read_full<R: Read>(from: &mut R, into: &mut [u8]) -> usize
     ensures { IsPrefixLen result into.new }
 {
@@ -30,48 +33,34 @@ pub fn read_full<R: Read>(from: &mut R, into: &mut [u8]) -> usize
 }
 
 // The bytes of a text that was printed; none where there was no room.
-fn bytes_of(printed: Printed) -> usize
+fn bytes_of(printed: Result<usize, TooSmall>) -> usize
     ensures { result ≡ to_write printed }
 {
-    match printed {
-        Printed::Whole(length) => length,
-        Printed::TooSmall(_) => 0,
-    }
+    printed.unwrap_or(0)
 }
 
 // The plan of a request by a method, or the refusal. The largest text has 2,145 bytes.
 pub fn plan_text(request: &[u8], method: Method, out: &mut [u8]) -> usize
     ensures { IsPrefixLen result out.new × TextIn (text_asked (meant_method method) request.now) out.old out.new result }
 {
-    let printed = text::print(request, method, out);
-    bytes_of(printed)
+    bytes_of(text::print(request, method, out))
 }
 
 // The range of a request, or the refusal. The longest line has 24 bytes.
 pub fn range_text(request: &[u8], out: &mut [u8]) -> usize
     ensures { IsPrefixLen result out.new × TextIn (range_text request.now) out.old out.new result }
 {
-    let printed = text::print_range(request, out);
-    bytes_of(printed)
+    bytes_of(text::print_range(request, out))
 }
 
-// What a byte counts as a digit; 0 for one below `0`.
-fn digit_of(b: u8) -> u64
-    ensures { (result ≡ b - 48) × (result ≤ 207) }
-{
-    if b < 48 { 0 } else { (b - 48) as u64 }
-}
-
-// The number that an argument spells. 17 bytes of it are read, for no 17 of them pass 64 bits.
+// The number that an argument spells: each of its bytes counts what it is above `0`. 17 of them are read, for no 17 pass 64 bits.
 pub fn number_of(digits: &[u8]) -> u64
     ensures { result ≡ number_of digits.now }
 {
-    let n = numbers::smaller(digits.len() as u64, 17) as usize;
+    let n = digits.len().min(17);
     let mut x = 0;
-    let mut i = 0;
-    while i < n {
-        x = x * 10 + digit_of(digits[i]);
-        i += 1;
+    for b in &digits[..n] {
+        x = x * 10 + u64::from(b.saturating_sub(b'0'));
     }
     x
 }
@@ -82,6 +71,21 @@ pub fn why_text(request: &[u8], task: &[u8], start: &[u8], out: &mut [u8]) -> us
 {
     let number = number_of(task) as usize;
     let minute = number_of(start);
-    let printed = text::print_why(request, number, minute, out);
-    bytes_of(printed)
+    bytes_of(text::print_why(request, number, minute, out))
+}
+
+// Reads a request, asks for a text of it, and writes that in one piece. "reads at most 16,384 bytes from standard input".
+pub fn answer<R: Read, W: Write, F: FnOnce(&[u8], &mut [u8]) -> usize>(
+    from: &mut R,
+    to: &mut W,
+    ask: F,
+) -> io::Result<()>
+    requires { F.IsAlwaysCallable ask }
+    ensures { OnOk result ((request : _) × (out : _) × (n : ℕ) × (after : _) × (length request.now ≤ 16_384) × F.post ask request out n after × Appends (W.contents to.old) (W.contents to.new) (take n after.now)) }
+{
+    let mut request = [0u8; 16_384];
+    let read = read_full(from, &mut request);
+    let mut out = [0u8; 2_304];
+    let length = ask(&request[..read], &mut out).min(out.len());
+    to.write_all(&out[..length])
 }

@@ -1,137 +1,49 @@
 -- The whole request, step by step: past a part that was read, what is left to read is the request's answer; a part's refusal is the request's.
-use mathlib.Core.Path.{◌≡◌, refl, sym, ◌∙◌, ap}
-use Prim.Native.Nat.{ℕ, ◌<◌, ◌≤◌}
-use mathlib.Core.List.{List}
-use lib.ListN.{length}
-use borrow.Author.Tests.{lt-ltb, le-ltb}
+use Rattle.std.specs.Prelude.{ℕ, ◌≡◌, refl, Bool, true, false, List, length, leb, Result, Ok, Err}
+use Rattle.std.specs.Result.{IsErrAnd}
+use Rattle.std.proofs.Common.{sym, arith, leb-true, leb-false}
+use Rattle.std.proofs.lemmas.Bool.{le-ltb, lt-ltb}
+use Rattle.refusals.specs.declared.Fault.{Fault}
+use Rattle.refusals.specs.declared.Refusal.{Refusal}
+use Rattle.refusals.specs.Numbers.{number}
 use Rattle.rules.specs.Fields.{H_tasks, H_processors, H_budget}
-use Rattle.rules.specs.Records.{Record, Read, read, stopped, header, header_at, end_at}
-use Rattle.rules.specs.Reading.{then, Deadline, Share, deadline_part, share_part, prices_part, windows_part, tasks_part, edges_part}
+use Rattle.rules.specs.Records.{Read, read, stopped, unless, header, header_at}
 use Rattle.rules.specs.Reading.{Request, nothing_after, read_request}
+use Rattle.good.specs.Records.{record_read}
 use Rattle.good.specs.ReadIsGood.{read_to_the_end}
-use Rattle.records.specs.declared.Cursor.{Cursor}
-use Rattle.records.specs.declared.Record as code
-use Rattle.records.specs.declared.Record.TheVariants.{Header}
-use Rattle.records.specs.declared.RecordAnswer.{RecordAnswer}
-use Rattle.records.specs.declared.RecordAnswer.TheVariants as answer
-use Rattle.records.specs.Meaning.{meant_record, meant}
-use Rattle.parts.specs.declared.Passed.{Passed}
-use Rattle.parts.specs.declared.Passed.TheVariants as passed
-use Rattle.parts.specs.Meaning.{meant_part, past}
-use Rattle.reader.specs.declared.Reading.{Reading}
-use Rattle.reader.specs.Meaning.{meant_reading, refusal_of}
-use Rattle.reader.proofs.Found.{header_found}
+use Rattle.records.proofs.Laws.{number_not_0}
+use Rattle.reader.specs.declared.View.{View}
+use Rattle.reader.specs.Meaning.{meant_reading}
 
--- An input with the numbers of its header.
-pub record Headed : Type 0 where
-  pub input : List ℕ
-  pub tasks : ℕ
-  pub processors : ℕ
-  pub budget : ℕ
+-- What a refusal that is handed up means.
+pub reading_refused : (s : List ℕ) (res : Result View Refusal) (r : Refusal) {a : Read Request} →
+    IsErrAnd res (λ y. y ≡ r) → stopped (number r.fault) r.place ≡ a → meant_reading s res ≡ a
+reading_refused s (Ok v) r h e = absurd h
+reading_refused s (Err y) r h e = rw h e
 
--- An input with what stands before its processors, which begin there.
-pub record Begun : Type 0 where
-  pub headed : Headed
-  pub deadline : Deadline
-  pub share : Share
-  pub prices_at : ℕ
+-- A header that was read has the numbers of the rules.
+pub header_numbers : (s : List ℕ) {next n m b : ℕ} → read next (header n m b) ≡ header_at s 0 →
+    (H_tasks s 0 ≡ n) × (H_processors s 0 ≡ m) × (H_budget s 0 ≡ b)
+unfolding header_at
+header_numbers s e = let same = (record_read _ _ _ _ _ (sym e)).same in (cc, cc, cc)
 
--- What is left to read past the end, and from each part on, with what the parts before it gave.
-module _ (b : Begun) where
-  abbrev h : Headed
-  h = b.headed
+-- Past the end there are bytes or none.
+module _ (s : List ℕ) (end : ℕ) (r : Request) where
+  pub bytes_after : (fault : Fault) {place : ℕ} →
+      unless (leb (length s) end) 6 ≡ number fault → end ≡ place → stopped (number fault) place ≡ nothing_after s end r
+  unfolding unless nothing_after
+  bytes_after fault {place = place} e same = go (leb (length s) end) refl
+    where
+      go : (t : Bool) → leb (length s) end ≡ t → stopped (number fault) place ≡ nothing_after s end r
+      go true is = absurd (number_not_0 fault (rw is at e))
+      go false is = rw (lt-ltb end (length s) (leb-false _ _ is), ← (rw is at e), same) refl
 
-  abbrev pub past_end : (windows_at windows tasks_at edges_at edges end : ℕ) → Read Request
-  past_end windows_at windows tasks_at edges_at edges end =
-      nothing_after h.input end
-      (record {
-        tasks = h.tasks;
-        processors = h.processors;
-        budget = h.budget;
-        deadline = b.deadline;
-        share = b.share;
-        prices_at = b.prices_at;
-        windows_at = windows_at;
-        windows = windows;
-        tasks_at = tasks_at;
-        edges_at = edges_at;
-        edges = edges;
-      })
-
-  abbrev pub from_end : (windows_at windows tasks_at edges_at edges at : ℕ) → Read Request
-  from_end windows_at windows tasks_at edges_at edges at =
-      then (end_at h.input at) (λ end _. past_end windows_at windows tasks_at edges_at edges end)
-
-  abbrev pub from_edges : (windows_at windows tasks_at edges_at : ℕ) → Read Request
-  from_edges windows_at windows tasks_at edges_at =
-      then (edges_part h.input h.tasks edges_at) (λ at edges. from_end windows_at windows tasks_at edges_at edges at)
-
-  abbrev pub from_tasks : (windows_at windows tasks_at : ℕ) → Read Request
-  from_tasks windows_at windows tasks_at =
-      then (tasks_part h.input h.tasks h.processors tasks_at) (λ edges_at _. from_edges windows_at windows tasks_at edges_at)
-
-  abbrev pub from_windows : (windows_at : ℕ) → Read Request
-  from_windows windows_at =
-      then (windows_part h.input h.processors windows_at) (λ tasks_at windows. from_tasks windows_at windows tasks_at)
-
-  abbrev pub from_prices : Read Request
-  from_prices = then (prices_part h.input h.processors b.prices_at) (λ windows_at _. from_windows windows_at)
-
-module _ (h : Headed) where
-  abbrev pub from_share : Deadline → (at : ℕ) → Read Request
-  from_share d at =
-      then (share_part h.input h.budget at)
-      (λ prices_at k. from_prices (record { headed = h; deadline = d; share = k; prices_at = prices_at }))
-
-  abbrev pub from_deadline : (at : ℕ) → Read Request
-  from_deadline at = then (deadline_part h.input at) (λ after d. from_share d after)
-
--- A record that is due by itself, the header or the end.
-module _ (s : List ℕ) {due : Read Record} (step : ℕ → Record → Read Request) (left : read_request s ≡ then due step)
-    (a : RecordAnswer) (answered : meant a ≡ due) where
-  pub record_passed : {next : Cursor} {found : code.Record} → a ≡ answer.Read next found → read_request s ≡ step next.at (meant_record found)
-  unfolding then
-  record_passed is = rw (left, ← answered, is)
-
-  pub record_refused : {r : Reading} {number place : ℕ} → a ≡ answer.Refused number place → r ≡ refusal_of (past a) →
-      meant_reading s r ≡ read_request s
-  unfolding then
-  record_refused is same = rw (left, same, ← answered, is)
-
-module _ (s : List ℕ) (a : RecordAnswer) (headed : meant a ≡ header_at s 0) where
-  pub header_refused : {r : Reading} {number place : ℕ} → a ≡ answer.Refused number place → r ≡ refusal_of (past a) →
-      meant_reading s r ≡ read_request s
-  unfolding read_request
-  header_refused = record_refused s _ refl a headed
-
-  pub header_read : {next : Cursor} {found : code.Record} {n m b : ℕ} → a ≡ answer.Read next found → found ≡ Header n m b →
-      read_request s ≡ from_deadline (record { input = s; tasks = n; processors = m; budget = b }) next.at
-  unfolding read_request then
-  header_read {next} {found} {n} {m} {b} is of =
-      let here : read next.at (header n m b) ≡ header_at s 0 = sym (ap meant (is ∙ ap (answer.Read next) of)) ∙ headed in
-      let found_is = header_found s 0 here in
-      let same_n : H_tasks s 0 ≡ n = cc in
-      let same_m : H_processors s 0 ≡ m = cc in
-      let same_b : H_budget s 0 ≡ b = cc in
-      rw (← here, same_n, same_m, same_b)
-
-module _ (s : List ℕ) {A : Type 0} {part : Read A} (step : ℕ → A → Read Request) (left : read_request s ≡ then part step)
-    (p : Passed) (a : A) (answered : meant_part p a ≡ part) where
-  pub part_read : {next : Cursor} → p ≡ passed.To next → read_request s ≡ step next.at a
-  unfolding then
-  part_read is = rw (left, ← answered, is)
-
-  pub part_refused : {r : Reading} {number place : ℕ} → p ≡ passed.Refused number place → r ≡ refusal_of p → meant_reading s r ≡ read_request s
-  unfolding then
-  part_refused is same = rw (left, same, ← answered, is)
-
-module _ (s : List ℕ) (end : ℕ) (r : Request) (left : read_request s ≡ nothing_after s end r) where
-  pub bytes_after : end < length s → stopped 6 end ≡ read_request s
-  unfolding nothing_after
-  bytes_after h = rw (left, lt-ltb _ _ h)
-
-  pub good_request : length s ≤ end → read (length s) r ≡ read_request s
-  unfolding nothing_after
-  good_request h =
-      let e : read_request s ≡ read end r = rw (left, le-ltb _ _ h) in
-      rw (e, read_to_the_end s e)
+  pub good_request : unless (leb (length s) end) 6 ≡ 0 → read_request s ≡ nothing_after s end r → read (length s) r ≡ read_request s
+  unfolding unless nothing_after
+  good_request e left = go (leb (length s) end) refl
+    where
+      go : (t : Bool) → leb (length s) end ≡ t → read (length s) r ≡ read_request s
+      go true is =
+          let all : read_request s ≡ read end r = rw (left, le-ltb end (length s) (leb-true _ _ is)) refl in
+          rw (all, read_to_the_end s all) refl
+      go false is = let six : ◌≡◌ {A = ℕ} 6 0 = rw is at e in absurd (omega arith)

@@ -1,25 +1,25 @@
 -- What the code's answers mean: for each case the rules' own, with document 01's number and place for a refusal.
-use Rattle.std.specs.Prelude.{ℕ, ◌≡◌, List, length}
+use Rattle.std.specs.Prelude.{ℕ, ◌≡◌, Bool, cond, List, length, Option, None, Some, Result, Ok, Err}
+use Rattle.refusals.specs.declared.Refusal.{Refusal}
+use Rattle.refusals.specs.Numbers.{number}
 use Rattle.rules.specs.Records.{read, stopped}
 use Rattle.rules.specs.Records as rules
 use Rattle.rules.specs.Reading as request
-use Rattle.parts.specs.declared.Passed.{Passed}
-use Rattle.parts.specs.declared.Passed.TheVariants as passed
-use Rattle.reader.specs.declared.Deadline.{Deadline}
-use Rattle.reader.specs.declared.Deadline.TheVariants as deadline
-use Rattle.reader.specs.declared.Share.{Share}
-use Rattle.reader.specs.declared.Share.TheVariants as share
 use Rattle.reader.specs.declared.View.{View}
-use Rattle.reader.specs.declared.Reading.{Reading}
-use Rattle.reader.specs.declared.Reading.TheVariants as reading
 
-abbrev pub meant_deadline : Deadline → request.Deadline
-meant_deadline deadline.Without = request.no_deadline
-meant_deadline (deadline.By minutes) = request.by minutes
+-- At most one record of a kind: what is read where one stands, else none.
+abbrev pub one_or_none : Bool → rules.Read ℕ → (at : ℕ) → rules.Read (Option ℕ)
+one_or_none stands due at = cond stands (request.then due (λ next x. read next (Some x))) (read at None)
 
-abbrev pub meant_share : Share → request.Share
-meant_share share.Without = request.no_share
-meant_share (share.Of thousandths) = request.thousandths thousandths
+-- "No `D` means no deadline."
+abbrev pub meant_deadline : Option ℕ → request.Deadline
+meant_deadline None = request.no_deadline
+meant_deadline (Some minutes) = request.by minutes
+
+-- "No `K` means the budget of `H`."
+abbrev pub meant_share : Option ℕ → request.Share
+meant_share None = request.no_share
+meant_share (Some thousandths) = request.thousandths thousandths
 
 -- A view holds the numbers of a good request, and where its parts begin.
 abbrev pub meant_view : View → request.Request
@@ -39,15 +39,10 @@ meant_view v =
     }
 
 -- A good request, read to the end of the input; or the refusal.
-abbrev pub meant_reading : List ℕ → Reading → rules.Read request.Request
-meant_reading s (reading.Good v) = read (length s) (meant_view v)
-meant_reading s (reading.Refused number place) = stopped number place
+abbrev pub meant_reading : List ℕ → Result View Refusal → rules.Read request.Request
+meant_reading s (Ok v) = read (length s) (meant_view v)
+meant_reading s (Err r) = stopped (number r.fault) r.place
 
 -- The view is that of the good request s.
 abbrev pub ViewOf : List ℕ → View → Type 0
 ViewOf s v = request.read_request s ≡ read (length s) (meant_view v)
-
--- A part's refusal as the request's.
-abbrev pub refusal_of : Passed → Reading
-refusal_of (passed.To next) = reading.Refused 0 next.at
-refusal_of (passed.Refused number place) = reading.Refused number place

@@ -1,71 +1,44 @@
 -- Two answers of reading with one meaning are one answer: the contract settles the view, or the refusal's number and place.
-use Rattle.std.specs.Prelude.{◌≡◌, refl, ℕ, List}
-use Rattle.std.proofs.Common.{sym, ◌∙◌, ap}
-use Rattle.rules.specs.Records.{Read, read, stopped}
-use Rattle.rules.specs.Reading as rules
-use Rattle.reader.specs.declared.Deadline.{Deadline}
-use Rattle.reader.specs.declared.Deadline.TheVariants as deadline
-use Rattle.reader.specs.declared.Share.{Share}
-use Rattle.reader.specs.declared.Share.TheVariants as share
-use Rattle.reader.specs.declared.Reading.{Reading}
-use Rattle.reader.specs.declared.Reading.TheVariants.{Good, Refused}
-use Rattle.reader.specs.Meaning.{meant_deadline, meant_share, meant_reading}
+use Rattle.std.specs.Prelude.{ℕ, ◌≡◌, refl, List, Option, None, Some, Result, Ok, Err}
+use Rattle.std.proofs.Common.{ap}
+use Rattle.refusals.specs.declared.Refusal.{Refusal}
+use Rattle.records.specs.Settled.{refusal_settled}
+use Rattle.rules.specs.Reading.{Request}
+use Rattle.reader.specs.declared.View.{View}
+use Rattle.reader.specs.Meaning.{meant_deadline, meant_share, meant_view, meant_reading}
 
--- The deadline, the share and the answer that mean this.
-deadline_for : rules.Deadline → Deadline
-deadline_for rules.no_deadline = deadline.Without
-deadline_for (rules.by minutes) = deadline.By minutes
+pub deadline_settled : (a b : Option ℕ) → meant_deadline a ≡ meant_deadline b → a ≡ b
+deadline_settled None None same = refl
+deadline_settled None (Some minutes) same = cc
+deadline_settled (Some minutes) None same = cc
+deadline_settled (Some minutes) (Some others) same = cc
 
-share_for : rules.Share → Share
-share_for rules.no_share = share.Without
-share_for (rules.thousandths k) = share.Of k
+pub share_settled : (a b : Option ℕ) → meant_share a ≡ meant_share b → a ≡ b
+share_settled None None same = refl
+share_settled None (Some k) same = cc
+share_settled (Some k) None same = cc
+share_settled (Some k) (Some j) same = cc
 
-reading_for : Read rules.Request → Reading
-reading_for (read end r) =
-    Good
-    (record {
-      tasks = r.tasks;
-      processors = r.processors;
-      budget = r.budget;
-      deadline = deadline_for r.deadline;
-      share = share_for r.share;
-      prices_at = r.prices_at;
-      windows_at = r.windows_at;
-      windows = r.windows;
-      tasks_at = r.tasks_at;
-      edges_at = r.edges_at;
-      edges = r.edges;
-    })
-reading_for (stopped number place) = Refused number place
+pub view_settled : (v w : View) → meant_view v ≡ meant_view w → v ≡ w
+view_settled v w same =
+    let deadline = deadline_settled v.deadline w.deadline (ap (λ (r : Request). r.deadline) same) in
+    let share = share_settled v.share w.share (ap (λ (r : Request). r.share) same) in
+    λ i. record {
+      tasks = (same i).tasks;
+      processors = (same i).processors;
+      budget = (same i).budget;
+      deadline = deadline i;
+      share = share i;
+      prices_at = (same i).prices_at;
+      windows_at = (same i).windows_at;
+      windows = (same i).windows;
+      tasks_at = (same i).tasks_at;
+      edges_at = (same i).edges_at;
+      edges = (same i).edges;
+    }
 
-deadline_again : (d : Deadline) → deadline_for (meant_deadline d) ≡ d
-unfolding deadline_for
-deadline_again deadline.Without = refl
-deadline_again (deadline.By minutes) = refl
-
-share_again : (k : Share) → share_for (meant_share k) ≡ k
-unfolding share_for
-share_again share.Without = refl
-share_again (share.Of k) = refl
-
-reading_again : (s : List ℕ) (a : Reading) → reading_for (meant_reading s a) ≡ a
-unfolding reading_for
-reading_again s (Good v) =
-    λ i. Good
-    (record {
-      tasks = v.tasks;
-      processors = v.processors;
-      budget = v.budget;
-      deadline = deadline_again v.deadline i;
-      share = share_again v.share i;
-      prices_at = v.prices_at;
-      windows_at = v.windows_at;
-      windows = v.windows;
-      tasks_at = v.tasks_at;
-      edges_at = v.edges_at;
-      edges = v.edges;
-    })
-reading_again s (Refused number place) = refl
-
-pub reading_settled : (s : List ℕ) (a b : Reading) → meant_reading s a ≡ meant_reading s b → a ≡ b
-reading_settled s a b same = sym (reading_again s a) ∙ ap reading_for same ∙ reading_again s b
+pub reading_settled : (s : List ℕ) (a b : Result View Refusal) → meant_reading s a ≡ meant_reading s b → a ≡ b
+reading_settled s (Ok v) (Ok w) same = ap Ok (view_settled v w cc)
+reading_settled s (Ok v) (Err r) same = cc
+reading_settled s (Err r) (Ok w) same = cc
+reading_settled s (Err r) (Err q) same = ap Err (refusal_settled r q same)

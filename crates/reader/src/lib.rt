@@ -1,96 +1,48 @@
 // Reads a whole request: its parts in order, each refusal handed straight up, and nothing after the last.
 #![tactic(auto)]
 
-ghost use Rattle.std.specs.Prelude.{◌≡◌};
+ghost use Rattle.std.specs.Prelude.{◌≡◌, ℕ, eqb};
+ghost use Rattle.rules.specs.Fields.{byte, kind_byte};
+ghost use Rattle.rules.specs.Records.{Read};
 ghost use Rattle.rules.specs.Reading.{deadline_part, share_part, read_request};
-ghost use Rattle.parts.specs.Meaning.{meant_part};
-ghost use Rattle.reader.specs.Meaning.{meant_deadline, meant_share, meant_reading, refusal_of};
+ghost use Rattle.fields.specs.Meaning.{meant_kind};
+ghost use Rattle.records.specs.Meaning.{meant};
+ghost use Rattle.reader.specs.Meaning.{one_or_none, meant_deadline, meant_share, meant_reading};
 
-use parts::Passed;
-use records::{Cursor, Record, RecordAnswer};
+use fields::Kind;
+use records::{Cursor, Read};
+use refusals::{Fault, Refusal};
 
-// "No `D` means no deadline."
-#[derive(Clone, Copy)]
-pub enum Deadline {
-    Without,
-    By(u64),
-}
-
-#[derive(Clone, Copy)]
-pub struct DeadlinePart {
-    pub passed: Passed,
-    pub deadline: Deadline,
-}
-
-// After the header: a `D`, where one stands there.
-fn read_deadline(s: &[u8], c: Cursor) -> DeadlinePart
-    ensures { meant_part result.passed (meant_deadline result.deadline) ≡ deadline_part s.now c.at }
+// At most one record of a kind: what `value` reads where one stands at the cursor, else none.
+fn optional<F: FnOnce(Cursor) -> Read<u64>>(
+    s: &[u8],
+    c: Cursor,
+    kind: Kind,
+    value: F,
+) -> Read<Option<u64>>
+    requires { F.IsAlwaysCallable value }
+    ensures { (due : Read ℕ) → ((r : _) → F.post value c r → meant (λ x. x) r ≡ due)
+        → meant (λ x. x) result ≡ one_or_none (eqb (byte s.now c.at) (kind_byte (meant_kind kind))) due c.at }
 {
-    if records::kind(s, c) != b'D' {
-        return DeadlinePart {
-            passed: Passed::To(c),
-            deadline: Deadline::Without,
-        };
+    if !c.stands(s, kind) {
+        return Ok((None, c));
     }
-    let answer = records::read_deadline(s, c);
-    let RecordAnswer::Read(after, found) = answer else {
-        return DeadlinePart {
-            passed: parts::handed_up(answer),
-            deadline: Deadline::Without,
-        };
-    };
-    let Record::Deadline { deadline } = found else {
-        return DeadlinePart {
-            passed: parts::handed_up(answer),
-            deadline: Deadline::Without,
-        };
-    };
-    DeadlinePart {
-        passed: Passed::To(after),
-        deadline: Deadline::By(deadline),
-    }
+    let (given, after) = value(c)?;
+    Ok((Some(given), after))
 }
 
-// "No `K` means the budget of `H`."
-#[derive(Clone, Copy)]
-pub enum Share {
-    Without,
-    Of(u64),
-}
-
-#[derive(Clone, Copy)]
-pub struct SharePart {
-    pub passed: Passed,
-    pub share: Share,
-}
-
-// After the header and any deadline: a `K`, where one stands there, beside this budget in the header.
-fn read_share(s: &[u8], c: Cursor, budget: u64) -> SharePart
-    ensures { meant_part result.passed (meant_share result.share) ≡ share_part s.now budget c.at }
+// After the header: a `D`, where one stands there. "No `D` means no deadline."
+fn read_deadline(s: &[u8], c: Cursor) -> Read<Option<u64>>
+    ensures { meant meant_deadline result ≡ deadline_part s.now c.at }
 {
-    if records::kind(s, c) != b'K' {
-        return SharePart {
-            passed: Passed::To(c),
-            share: Share::Without,
-        };
-    }
-    let answer = records::read_share(s, c, budget);
-    let RecordAnswer::Read(after, found) = answer else {
-        return SharePart {
-            passed: parts::handed_up(answer),
-            share: Share::Without,
-        };
-    };
-    let Record::Share { share } = found else {
-        return SharePart {
-            passed: parts::handed_up(answer),
-            share: Share::Without,
-        };
-    };
-    SharePart {
-        passed: Passed::To(after),
-        share: Share::Of(share),
-    }
+    optional(s, c, Kind::Deadline, |c| records::read_deadline(s, c))
+}
+
+// After the header and any deadline: a `K`, where one stands there, beside this budget in the header. "No `K` means the budget of `H`."
+fn read_share(s: &[u8], c: Cursor, budget: u64) -> Read<Option<u64>>
+    ensures { meant meant_share result ≡ share_part s.now budget c.at }
+{
+    optional(s, c, Kind::Share, |c| records::read_share(s, c, budget))
 }
 
 // A good request: its numbers, and where its parts begin. Windows, minutes and edges are read where they stand; one walks over the processor records, each as
@@ -100,8 +52,8 @@ pub struct View {
     pub tasks: usize,
     pub processors: usize,
     pub budget: u64,
-    pub deadline: Deadline,
-    pub share: Share,
+    pub deadline: Option<u64>,
+    pub share: Option<u64>,
     pub prices_at: usize,
     pub windows_at: usize,
     pub windows: usize,
@@ -110,87 +62,30 @@ pub struct View {
     pub edges: usize,
 }
 
-// A good request, or a refusal: its number, 1 to 6, and its place.
-#[derive(Clone, Copy)]
-pub enum Reading {
-    Good(View),
-    Refused(u64, usize),
-}
-
-// A part's refusal as the request's. Number 0 is never answered: by its contract `read_request` refuses with 1 to 6 (`stopped_with_1_to_6`, crate `demands`).
-fn refused(passed: Passed) -> Reading
-    ensures { result ≡ refusal_of passed }
-{
-    match passed {
-        Passed::To(next) => Reading::Refused(0, next.at),
-        Passed::Refused(number, place) => Reading::Refused(number, place),
-    }
-}
-
 // The request that these bytes are: a view of it where it is good, else the first fault.
-pub fn read_request(s: &[u8]) -> Reading
+pub fn read_request(s: &[u8]) -> Result<View, Refusal>
     ensures { meant_reading s.now result ≡ read_request s.now }
 {
-    let answer = records::read_header(s, Cursor { at: 0 });
-    let RecordAnswer::Read(headed, found) = answer else {
-        return refused(parts::handed_up(answer));
-    };
-    let Record::Header {
-        tasks,
-        processors,
-        budget,
-    } = found
-    else {
-        return refused(parts::handed_up(answer));
-    };
-    let due = read_deadline(s, headed);
-    let dated = due.passed;
-    let deadline = due.deadline;
-    let Passed::To(after) = dated else {
-        return refused(dated);
-    };
-    let set = read_share(s, after, budget);
-    let shared = set.passed;
-    let share = set.share;
-    let Passed::To(prices) = shared else {
-        return refused(shared);
-    };
-    let priced = parts::read_prices(s, prices, processors);
-    let Passed::To(windows) = priced else {
-        return refused(priced);
-    };
-    let upkeep = parts::read_windows(s, windows, processors);
-    let maintained = upkeep.passed;
-    let Passed::To(first) = maintained else {
-        return refused(maintained);
-    };
-    let worked = parts::read_tasks(s, first, tasks, processors);
-    let Passed::To(edges) = worked else {
-        return refused(worked);
-    };
-    let linked = parts::read_edges(s, edges, tasks);
-    let joined = linked.passed;
-    let Passed::To(last) = joined else {
-        return refused(joined);
-    };
-    let closed = records::read_end(s, last);
-    let RecordAnswer::Read(end, _) = closed else {
-        return refused(parts::handed_up(closed));
-    };
-    if end.at < s.len() {
-        return Reading::Refused(6, end.at);
-    }
-    Reading::Good(View {
-        tasks,
-        processors,
-        budget,
+    let (header, headed) = records::read_header(s, Cursor { at: 0 })?;
+    let (deadline, dated) = read_deadline(s, headed)?;
+    let (share, prices) = read_share(s, dated, header.budget)?;
+    let windows = parts::read_prices(s, prices, header.processors)?;
+    let (windows_read, tasks) = parts::read_windows(s, windows, header.processors)?;
+    let edges = parts::read_tasks(s, tasks, header.tasks, header.processors)?;
+    let (edges_read, last) = parts::read_edges(s, edges, header.tasks)?;
+    let (_, end) = records::read_end(s, last)?;
+    end.check(s.len() <= end.at, Fault::BytesAfter)?;
+    Ok(View {
+        tasks: header.tasks,
+        processors: header.processors,
+        budget: header.budget,
         deadline,
         share,
         prices_at: prices.at,
         windows_at: windows.at,
-        windows: upkeep.count,
-        tasks_at: first.at,
+        windows: windows_read,
+        tasks_at: tasks.at,
         edges_at: edges.at,
-        edges: linked.count,
+        edges: edges_read,
     })
 }

@@ -1,9 +1,10 @@
 -- What the code's reasons mean.
+use Rattle.std.specs.Prelude.{Option, None, Some}
+use Rattle.rules.specs.Workflow as workflow
 use Rattle.rules.specs.Why as rules
 use Rattle.reasons.specs.declared.Why.{Why}
 use Rattle.reasons.specs.declared.Why.TheVariants as why
-use Rattle.reasons.specs.declared.Met.{Met}
-use Rattle.reasons.specs.declared.Met.TheVariants as met
+use Rattle.reasons.specs.declared.Interval.{Interval}
 
 unfoldable pub meant_why : Why → rules.Why
 meant_why (why.LateData from minute) = rules.late_data from minute
@@ -13,6 +14,9 @@ meant_why (why.OwnStart start) = rules.own_start start
 meant_why (why.NoTask tasks) = rules.no_task tasks
 meant_why (why.NoPlan number place) = rules.no_plan number place
 
-abbrev pub meant_met : Met → rules.Met
-meant_met met.Nothing = rules.none
-meant_met (met.During begin end) = rules.met (record { begin = begin; end = end })
+abbrev pub meant_interval : Interval → workflow.Interval
+meant_interval i = record { begin = i.begin; end = i.end }
+
+abbrev pub meant_met : Option Interval → rules.Met
+meant_met None = rules.none
+meant_met (Some i) = rules.met (meant_interval i)

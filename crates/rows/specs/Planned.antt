@@ -4,9 +4,8 @@ use Rattle.rules.specs.Rows as rules
 use Rattle.rules.specs.Method.{Name}
 use Rattle.rules.specs.Answer.{answer_asked, rows_asked}
 use Rattle.laws.specs.Stores.{at}
-use Rattle.planner.specs.declared.Answer.{Answer}
-use Rattle.planner.specs.declared.Planning.{Planning}
-use Rattle.planner.specs.Planned.{meant_answer}
+use Rattle.budgets.specs.declared.Rows.{Rows}
+use Rattle.planner.specs.Planned.{Answer, meant_answer}
 use Rattle.rows.specs.declared.Row.{Row}
 use Rattle.rows.specs.declared.WholePlan.{WholePlan}
 
@@ -15,8 +14,8 @@ abbrev pub meant_row : Row → rules.Row
 meant_row r = record { processor = r.processor; start = r.start; finish = r.finish; cost = r.cost }
 
 -- Row i of the four arrays.
-abbrev pub row_at : Planning → ℕ → Row
-row_at p i = record { processor = at p.processors i; start = at p.starts i; finish = at p.finishes i; cost = at p.costs i }
+abbrev pub row_at : Rows → ℕ → Row
+row_at r i = record { processor = at r.processors i; start = at r.starts i; finish = at r.finishes i; cost = at r.costs i }
 
 -- The answer is the rules' by the method that is asked for, and so are all rows after the call, the untouched ones too.
 pub record PlannedRows (M : Name) (s : List ℕ) (lent after : List Row) (r : Answer) : Type 0 where

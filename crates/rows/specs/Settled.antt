@@ -4,7 +4,7 @@ use Rattle.std.specs.Prelude.{ℕ, ◌≡◌, refl, List, [], ◌∷◌, map, re
 use Rattle.std.proofs.Common.{sym, ap, ◌∙◌}
 use Rattle.rules.specs.Method.{Name}
 use Rattle.rules.specs.Rows as rules
-use Rattle.planner.specs.declared.Answer.{Answer}
+use Rattle.planner.specs.Planned.{Answer}
 use Rattle.planner.specs.Settled.{answer_settled}
 use Rattle.rows.specs.declared.Row.{Row}
 use Rattle.rows.specs.declared.WholePlan.{WholePlan}

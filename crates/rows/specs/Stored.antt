@@ -10,17 +10,16 @@ use Rattle.rules.specs.Rows as rules
 use Rattle.rules.specs.Answer.{Outcome, plan, refusal, outcome_asked, answer_of, answer_asked, written, rows_asked}
 use Rattle.laws.specs.Listing.{listing_same}
 use Rattle.laws.specs.Overwritten.{overwritten, overwritten_mapped}
-use Rattle.placing.specs.Placed.{Columns}
-use Rattle.planner.specs.declared.Answer.{Answer}
-use Rattle.planner.specs.declared.Planning.{Planning}
-use Rattle.planner.specs.Planned.{PlanOf, rows_in, rows_told}
+use Rattle.budgets.specs.declared.Rows.{Rows}
+use Rattle.budgets.specs.Prepared.{RowsAre}
+use Rattle.planner.specs.Planned.{Answer, PlanOf, planned_in, rows_in, rows_told}
 use Rattle.planner.specs.Reach.{rows_due, told_due, rows_in_reach}
 use Rattle.rows.specs.declared.Row.{Row}
 use Rattle.rows.specs.Planned.{meant_row, row_at, PlannedRows}
 
-module _ (p : Planning) where
-  row_meant : {rows : List rules.Placed} → Columns rows p.processors p.starts p.finishes p.costs
-      → (i : ℕ) → meant_row (row_at p i) ≡ rules.row_of rows i
+module _ (r : Rows) where
+  row_meant : {rows : List rules.Placed} → RowsAre rows r
+      → (i : ℕ) → meant_row (row_at r i) ≡ rules.row_of rows i
   row_meant columns i =
       λ t. record {
         processor = columns.processors_hold.holds i t;
@@ -29,31 +28,31 @@ module _ (p : Planning) where
         cost = columns.costs_hold.holds i t;
       }
 
-  due_written : (o : Outcome) (lent : List rules.Row) → Columns (rows_in o) p.processors p.starts p.finishes p.costs
-      → overwritten (rows_due (answer_of o)) (λ i. meant_row (row_at p i)) lent ≡ written o lent
+  due_written : (o : Outcome) (lent : List rules.Row) → RowsAre (rows_in o) r
+      → overwritten (rows_due (answer_of o)) (λ i. meant_row (row_at r i)) lent ≡ written o lent
   unfolding rows_in written answer_of rows_due listing
   due_written (plan W rows) lent columns =
       ap (λ front. front ++ drop W.tasks lent)
-      (listing_same W.tasks (λ i. meant_row (row_at p i)) (rules.row_of rows) (λ i l. row_meant columns i))
+      (listing_same W.tasks (λ i. meant_row (row_at r i)) (rules.row_of rows) (λ i l. row_meant columns i))
   due_written (refusal number place) lent columns = refl
 
-module _ (M : Name) (s : List ℕ) {p : Planning} {n : ℕ} where
-  pub due_in_reach : (lent : ℕ) → PlanOf (outcome_asked M s lent) p → n ≡ rows_told p.answer → (n ≤ lent) × (n ≤ 64)
+module _ (M : Name) (s : List ℕ) {r : Rows} {answer : Answer} {n : ℕ} where
+  pub due_in_reach : (lent : ℕ) → PlanOf (outcome_asked M s lent) (planned_in r answer) → n ≡ rows_told answer → (n ≤ lent) × (n ≤ 64)
   due_in_reach lent planned due =
-      let reach = rows_in_reach M s lent p.answer planned.answer_is in (omega (arith, reach, due), omega (arith, reach, due))
+      let reach = rows_in_reach M s lent answer planned.answer_is in (omega (arith, reach, due), omega (arith, reach, due))
 
   -- What the call leaves is the rules'.
-  pub rows_planned : {lent after : List Row} {r : Answer} → PlanOf (outcome_asked M s (length lent)) p → n ≡ rows_told p.answer
-      → after ≡ overwritten n (row_at p) lent → r ≡ p.answer → PlannedRows M s lent after r
+  pub rows_planned : {lent after : List Row} → PlanOf (outcome_asked M s (length lent)) (planned_in r answer) → n ≡ rows_told answer
+      → after ≡ overwritten n (row_at r) lent → PlannedRows M s lent after answer
   unfolding answer_asked rows_asked
-  rows_planned {lent} {after} planned due stored is =
+  rows_planned {lent} {after} planned due stored =
       let o = outcome_asked M s (length lent) in
-      let all : n ≡ rows_due (answer_of o) = due ∙ told_due o p.answer planned.answer_is in
+      let all : n ≡ rows_due (answer_of o) = due ∙ told_due o answer planned.answer_is in
       record {
-        answer_is = rw is planned.answer_is;
+        answer_is = planned.answer_is;
         rows_are =
-            ap (map meant_row) stored ∙ sym (overwritten_mapped n (row_at p) lent meant_row)
-            ∙ ap (λ k. overwritten k (λ i. meant_row (row_at p i)) (map meant_row lent)) all
-            ∙ due_written p o (map meant_row lent) planned.columns
+            ap (map meant_row) stored ∙ sym (overwritten_mapped n (row_at r) lent meant_row)
+            ∙ ap (λ k. overwritten k (λ i. meant_row (row_at r i)) (map meant_row lent)) all
+            ∙ due_written r o (map meant_row lent) planned.columns
             ∙ ap (λ k. written (outcome_asked M s k) (map meant_row lent)) (sym (length-map lent meant_row));
       }

@@ -1,17 +1,17 @@
 // The plan of a request by the method that is asked for, its rows as structs: in a lent slice, or 64 of them by value.
 #![tactic(auto)]
 
-ghost use Rattle.std.specs.Prelude.{◌≡◌, ◌<◌, ◌≤◌, length, replicate};
+ghost use Rattle.std.specs.Prelude.{◌≡◌, ◌<◌, ◌≤◌, length};
 ghost use Rattle.laws.specs.Overwritten.{overwritten};
 ghost use Rattle.choosing.specs.Named.{meant_method};
-ghost use Rattle.planner.specs.Planned.{rows_told};
 ghost use Rattle.rows.specs.Planned.{row_at, PlannedRows, PlannedWhole};
 
+use budgets::Rows;
 use choosing::Method;
-use planner::{Answer, Planning};
+use planner::Answer;
 
-// "row i for task i: processor, start, finish, cost"
-#[derive(Clone, Copy)]
+// "row i for task i: processor, start, finish, cost". Its numbers are those of the four arrays; the processor of `hand::Row` is an index.
+#[derive(Clone, Copy, Debug, PartialEq, Eq)]
 pub struct Row {
     pub processor: u64,
     pub start: u64,
@@ -19,44 +19,27 @@ pub struct Row {
     pub cost: u64,
 }
 
-// How many rows come with the answer: none with a refusal.
-fn rows_due(p: Planning) -> usize
-    ensures { result ≡ rows_told p.answer }
-{
-    let told = p.answer;
-    planner::rows_of(told) as usize
-}
-
-// The answer that the rows come with.
-fn answer_of(p: Planning) -> Answer
-    ensures { result ≡ p.answer }
-{
-    let answer = p.answer;
-    answer
-}
-
 // Row i: the numbers at i in the four arrays.
-fn row_of(p: Planning, i: usize) -> Row
+fn row_of(columns: &Rows, i: usize) -> Row
     requires { i < 64 }
-    ensures { result ≡ row_at p i }
+    ensures { result ≡ row_at columns.now i }
 {
     Row {
-        processor: p.processors[i],
-        start: p.starts[i],
-        finish: p.finishes[i],
-        cost: p.costs[i],
+        processor: columns.processors[i],
+        start: columns.starts[i],
+        finish: columns.finishes[i],
+        cost: columns.costs[i],
     }
 }
 
 // Stores the first n rows; the later ones keep their content.
-fn store(rows: &mut [Row], n: usize, p: Planning)
+#[tactic(auto, using(laws::specs::Overwritten::overwritten_more), unfolding(rules::specs::Folds::listing))]
+fn store(rows: &mut [Row], n: usize, columns: &Rows)
     requires { (n ≤ length rows.old) × (n ≤ 64) }
-    ensures { rows.new ≡ overwritten n (row_at p) rows.old }
+    ensures { rows.new ≡ overwritten n (row_at columns.now) rows.old }
 {
-    let mut i = 0;
-    while i < n {
-        rows[i] = row_of(p, i);
-        i += 1;
+    for (i, row) in rows[..n].iter_mut().enumerate() {
+        *row = row_of(columns, i);
     }
 }
 
@@ -66,38 +49,25 @@ pub fn plan(request: &[u8], method: Method, rows: &mut [Row]) -> Answer
     ensures { PlannedRows (meant_method method) request.now rows.old rows.new result }
 {
     let lent = rows.len();
-    let p = asked::plan(request, method, lent);
-    let n = rows_due(p);
-    store(rows, n, p);
-    answer_of(p)
+    let mut columns = Rows::none();
+    let answer = asked::plan_columns(request, method, lent, &mut columns);
+    let n = planner::rows_of(answer) as usize;
+    store(rows, n, &columns);
+    answer
 }
 
 // The answer, and 64 rows, as many as a request has tasks at the most.
-#[derive(Clone, Copy)]
+#[derive(Clone, Copy, Debug, PartialEq, Eq)]
 pub struct WholePlan {
     pub answer: Answer,
     pub rows: [Row; 64],
-}
-
-// The rows that are lent: each holds `blank`.
-fn blank_rows(blank: Row) -> [Row; 64]
-    ensures { result ≡ replicate 64 blank }
-{
-    [blank; 64]
-}
-
-// The answer and the rows together.
-fn whole(answer: Answer, rows: [Row; 64]) -> WholePlan
-    ensures { result ≡ record { answer = answer; rows = rows } }
-{
-    WholePlan { answer, rows }
 }
 
 // Plans a request by the method that is asked for, with 64 rows that hold `blank`: those that the plan does not write still hold it.
 pub fn plan_whole(request: &[u8], method: Method, blank: Row) -> WholePlan
     ensures { PlannedWhole (meant_method method) request.now blank result }
 {
-    let mut rows = blank_rows(blank);
+    let mut rows = [blank; 64];
     let answer = plan(request, method, &mut rows);
-    whole(answer, rows)
+    WholePlan { answer, rows }
 }

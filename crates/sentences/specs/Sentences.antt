@@ -7,10 +7,6 @@ use Rattle.rules.specs.Why.{told}
 abbrev pub one_text : (line sentence rest : List ℕ) → ℕ → List ℕ
 one_text line sentence rest x = told line x ++ (told sentence x ++ rest)
 
--- Two numbers, and the end of the sentence.
-abbrev pub two_end : (first second : List ℕ) → (a b : ℕ) → List ℕ
-two_end first second a b = told first a ++ (told second b ++ bytes ".\n")
-
 -- Two numbers told twice.
 abbrev pub two_text : (line first second : List ℕ) → (a b : ℕ) → List ℕ
-two_text line first second a b = told line a ++ (told (bytes " ") b ++ two_end first second a b)
+two_text line first second a b = told line a ++ (told (bytes " ") b ++ (told first a ++ (told second b ++ bytes ".\n")))

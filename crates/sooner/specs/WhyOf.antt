@@ -1,5 +1,5 @@
 -- The reason that an outcome gives, by the answer and the arrays that are told of it.
-use Rattle.std.specs.Prelude.{ℕ, ◌≤◌, ◌<◌, ◌≡◌, refl, List}
+use Rattle.std.specs.Prelude.{ℕ, ◌≤◌, ◌<◌, ◌≡◌, refl, List, Ok}
 use Rattle.std.proofs.Common.{◌∙◌, arith, lt-ltb, le-ltb}
 use Rattle.rules.specs.Reading.{Share}
 use Rattle.rules.specs.Workflow.{Workflow}
@@ -18,10 +18,9 @@ use Rattle.laws.specs.LatestFinish.{finish_in_length}
 use Rattle.demands.specs.Demand2.WhatIsDue as due
 use Rattle.demands.specs.Demand2.WhatIsDue.{Due, seven, eight, nine, eleven}
 use Rattle.placing.specs.Placed.{Columns}
+use Rattle.planner.specs.declared.Summary.{Summary}
 use Rattle.planner.specs.declared.Planning.{Planning}
-use Rattle.planner.specs.declared.Answer.{Answer}
-use Rattle.planner.specs.declared.Answer.TheVariants as answer
-use Rattle.planner.specs.Planned.{meant_answer, rows_in, PlanOf}
+use Rattle.planner.specs.Planned.{Answer, meant_answer, rows_in, PlanOf}
 use Rattle.bounds.specs.PlanBounds.{row_bounds, length_at_most}
 
 -- What is in force changes no reason.
@@ -39,26 +38,22 @@ same_rows :
 same_rows W columns i t =
     λ z. why_placed W (λ k. columns.processors_hold.holds k z) (λ k. columns.starts_hold.holds k z) (λ k. columns.finishes_hold.holds k z) i t
 
-no_refusal : (a : Answer) {n long cost left number place : ℕ} → a ≡ answer.Planned n long cost left → meant_answer a ≡ answers.refused number place → ⊥
-unfolding meant_answer
-no_refusal a told e =
-    let same = rw told at e in
-    let z : ◌≡◌ {A = ℕ} 0 1 = cc in
-    omega arith
+no_refusal : (a : Answer) {summary : Summary} {number place : ℕ} → a ≡ Ok summary → meant_answer a ≡ answers.refused number place → ⊥
+no_refusal a told e = let same = rw told at e in cc
 
 -- The outcome is a plan of W, and the arrays hold its rows: what is asked of them, and the reason that they give for a task of W and for any other.
 pub record RowsOf (W : Workflow) (o : Outcome) (p : Planning) : Type 0 where
-  pub processor_in : (i : ℕ) → i < W.tasks → at p.processors i < W.processors
-  pub start_in : (i : ℕ) → i < W.tasks → at p.starts i ≤ finish_most
-  pub finishes_in : AtMost finish_most p.finishes
-  pub reason : (i t : ℕ) → i < W.tasks → why_placed W (at p.processors) (at p.starts) (at p.finishes) i t ≡ why_of o i t
+  pub processor_in : (i : ℕ) → i < W.tasks → at p.rows.processors i < W.processors
+  pub start_in : (i : ℕ) → i < W.tasks → at p.rows.starts i ≤ finish_most
+  pub finishes_in : AtMost finish_most p.rows.finishes
+  pub reason : (i t : ℕ) → i < W.tasks → why_placed W (at p.rows.processors) (at p.rows.starts) (at p.rows.finishes) i t ≡ why_of o i t
   pub past : (i t : ℕ) → W.tasks ≤ i → no_task W.tasks ≡ why_of o i t
 
 -- Where the answer tells a plan, by what is due.
 pub plan_told :
     (share : Share) (W : Workflow) {o : Outcome} (p : Planning) → InRange (held_to by_HBCS share W) → Due (held_to by_HBCS share W) 64 by_HBCS o → PlanOf o p
-    → {n long cost left : ℕ} → p.answer ≡ answer.Planned n long cost left → RowsOf W o p
-unfolding meant_answer answer_of rows_in why_of held_to in_force
+    → {summary : Summary} → p.answer ≡ Ok summary → RowsOf W o p
+unfolding answer_of rows_in why_of held_to in_force
 plan_told share W p range (seven few) is told = absurd (no_refusal p.answer told is.answer_is)
 plan_told share W p range (eight enough lowest) is told = absurd (no_refusal p.answer told is.answer_is)
 plan_told share W p range (nine placeable dear) is told = absurd (no_refusal p.answer told is.answer_is)

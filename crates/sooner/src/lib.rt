@@ -4,56 +4,58 @@
 ghost use Rattle.std.specs.Prelude.{◌≡◌};
 ghost use Rattle.rules.specs.Method.{by_HBCS};
 ghost use Rattle.rules.specs.Answer.{outcome_by};
-ghost use Rattle.rules.specs.Why.{why_of, why_not};
-ghost use Rattle.reader.specs.Meaning.{ViewOf};
+ghost use Rattle.rules.specs.Why.{no_plan, why_of, why_not};
+ghost use Rattle.refusals.specs.Numbers.{number};
 ghost use Rattle.planner.specs.Planned.{workflow_by};
 ghost use Rattle.reasons.specs.Meant.{meant_why};
 
+use budgets::Rows;
 use choosing::Method;
-use planner::Answer;
-use reader::{Reading, View};
+use lookup::Request;
 use reasons::Why;
+use refusals::Refusal;
+
+// That there is no plan.
+#[tactic(auto, unfolding(reasons::specs::Meant::meant_why))]
+fn no_plan(refusal: Refusal) -> Why
+    ensures { meant_why result ≡ no_plan (number refusal.fault) refusal.place }
+{
+    Why::NoPlan {
+        number: refusal.fault.number(),
+        place: refusal.place,
+    }
+}
 
 // What stands against a start of a task of a good request, by its view: in the plan by HBCS, which is made for it.
-fn why_good(s: &[u8], v: View, task: usize, start: u64) -> Why
-    requires { ViewOf s.now v }
-    ensures { meant_why result ≡ why_of (outcome_by by_HBCS (workflow_by by_HBCS s.now v) 64) task start }
+fn why_good(r: &Request<'_>, task: usize, start: u64) -> Why
+    ensures { meant_why result ≡ why_of (outcome_by by_HBCS (workflow_by by_HBCS r.now.bytes.now r.now.view) 64) task start }
 {
-    let mut processor_of = [0u64; 64];
-    let mut start_of = [0u64; 64];
-    let mut finish_of = [0u64; 64];
-    let mut cost_of = [0u64; 64];
-    let answer = planner::plan_good(
-        s,
-        v,
-        Method::Hbcs,
-        64,
-        &mut processor_of,
-        &mut start_of,
-        &mut finish_of,
-        &mut cost_of,
-    );
-    if let Answer::Refused { number, place } = answer {
-        return Why::NoPlan { number, place };
+    let mut rows = Rows::none();
+    let answer = planner::plan_good(r, Method::Hbcs, 64, &mut rows);
+    if let Err(refusal) = answer {
+        return no_plan(refusal);
     }
-    if v.tasks <= task {
+    if r.view.tasks <= task {
         return Why::NoTask {
-            tasks: v.tasks as u64,
+            tasks: r.view.tasks as u64,
         };
     }
-    reasons::why_placed(s, v, &processor_of, &start_of, &finish_of, task, start)
+    reasons::why_placed(
+        r,
+        &rows.processors,
+        &rows.starts,
+        &rows.finishes,
+        task,
+        start,
+    )
 }
 
 // What stands against a start of a task of any request: in the plan that the page answers with, or that there is none.
 pub fn why_not(request: &[u8], task: usize, start: u64) -> Why
     ensures { meant_why result ≡ why_not request.now task start }
 {
-    let reading = reader::read_request(request);
-    match reading {
-        Reading::Good(v) => why_good(request, v, task, start),
-        Reading::Refused(number, place) => Why::NoPlan {
-            number,
-            place: place as u64,
-        },
+    match Request::read(request) {
+        Ok(r) => why_good(&r, task, start),
+        Err(refusal) => no_plan(refusal),
     }
 }

@@ -3,74 +3,64 @@
 #![tactic(auto)]
 
 ghost use Rattle.std.specs.Prelude.{◌≡◌, false, ◌+◌, ◌<◌, get_or, replicate};
-ghost use Rattle.reader.specs.Meaning.{ViewOf};
-ghost use Rattle.lookup.specs.Lookup.{workflow_of};
+ghost use Rattle.lookup.specs.Flow.{flow};
 ghost use Rattle.successors.specs.Begins.{Begins, BeginsFrom};
 ghost use Rattle.successors.specs.Held.{Held, released};
 
-use reader::View;
+use lookup::Request;
 
 // Where the edges of a task begin, which end at `end`.
-fn begin_of(s: &[u8], v: View, task: usize, end: usize) -> usize
-    requires view_of { ViewOf s.now v }
-    requires begins { Begins (workflow_of s.now v) (task + 1) end }
-    ensures { Begins (workflow_of s.now v) task result }
+fn begin_of(r: &Request<'_>, task: usize, end: usize) -> usize
+    requires { Begins (flow r.now) (task + 1) end }
+    ensures { Begins (flow r.now) task result }
 {
-    let mut begin = end;
-    while 0 < begin {
-        let before = begin - 1;
-        if lookup::from(s, v, before) < task {
-            return begin;
+    for before in (0..end).rev() {
+        if r.from(before) < task {
+            return before + 1;
         }
-        begin = before;
     }
-    begin
+    0
 }
 
 // Where the edges of each task begin; past the last task, where all edges end.
-pub fn begins_all(s: &[u8], v: View) -> [u16; 65]
-    requires { ViewOf s.now v }
-    ensures { BeginsFrom (workflow_of s.now v) 0 result }
+#[tactic(auto, using(lookup::specs::Views::view_tasks, lookup::specs::Views::view_edges))]
+pub fn begins_all(r: &Request<'_>) -> [u16; 65]
+    ensures { BeginsFrom (flow r.now) 0 result }
 {
     let mut begins = [0u16; 65];
-    let mut task = v.tasks;
-    let mut end = v.edges;
-    begins[task] = end as u16;
-    while 0 < task {
-        task -= 1;
-        end = begin_of(s, v, task, end);
+    let mut end = r.view.edges;
+    begins[r.view.tasks] = end as u16;
+    for task in (0..r.view.tasks).rev() {
+        end = begin_of(r, task, end);
         begins[task] = end as u16;
     }
     begins
 }
 
 // How many edges lead to each task, in a lent array in which none is counted yet.
-pub fn count_all(s: &[u8], v: View, held: &mut [u64; 64])
-    requires view_of { ViewOf s.now v }
-    requires held_value { held.old ≡ replicate 64 0 }
-    ensures { Held (workflow_of s.now v) (λ i. false) held.new }
+#[tactic(auto, using(lookup::specs::Views::view_tasks, lookup::specs::Views::view_edges))]
+pub fn count_all(r: &Request<'_>, held: &mut [u64; 64])
+    requires { held.old ≡ replicate 64 0 }
+    ensures { Held (flow r.now) (λ i. false) held.new }
 {
-    let mut e = 0;
-    while e < v.edges {
-        let to = lookup::to(s, v, e);
-        held[to] = held[to] + 1;
-        e += 1;
+    for e in 0..r.view.edges {
+        let to = r.to(e);
+        held[to] += 1;
     }
 }
 
 // The task is placed: it is held back from now on, and its successors are no more held back by it.
-pub fn release(s: &[u8], v: View, begins: &[u16; 65], task: usize, held: &mut [u64; 64])
-    requires view_of { ViewOf s.now v }
-    requires task_lt_tasks { task < v.tasks }
-    requires begins_from { BeginsFrom (workflow_of s.now v) 0 begins.now }
-    ensures { held.new ≡ released (workflow_of s.now v) (get_or begins.now task 0) (get_or begins.now (task + 1) 0) task held.old }
+#[tactic(auto, using(lookup::specs::Views::view_tasks, lookup::specs::Views::view_edges))]
+pub fn release(r: &Request<'_>, begins: &[u16; 65], task: usize, held: &mut [u64; 64])
+    requires task_lt_tasks { task < r.now.view.tasks }
+    requires begins_from { BeginsFrom (flow r.now) 0 begins.now }
+    ensures { held.new ≡ released (flow r.now) (get_or begins.now task 0) (get_or begins.now (task + 1) 0) task held.old }
 {
     held[task] = 1;
-    let end = begins[task + 1] as usize;
-    let mut e = begins[task] as usize;
-    while e < end {
-        let to = lookup::to(s, v, e);
-        held[to] = numbers::less(held[to], 1);
-        e += 1;
+    let begin = usize::from(begins[task]);
+    let end = usize::from(begins[task + 1]);
+    for e in begin..end {
+        let to = r.to(e);
+        held[to] = held[to].saturating_sub(1);
     }
 }

@@ -1,54 +1,36 @@
 -- The two ways that printing ends: the buffer is too small and keeps its content, or the text is written over its front.
-use Rattle.std.specs.Prelude.{ℕ, ◌≤◌, ◌<◌, refl, Bool, List, ◌++◌, take, drop, leb}
+use Rattle.std.specs.Prelude.{ℕ, ◌<◌, refl, Bool, List, ◌++◌, drop, leb, Result, Ok, Err}
 use Rattle.std.proofs.Math.Path.{◌≡◌}
 use Rattle.std.proofs.Common.{sym, ap, subst, ◌∙◌, arith, length-append, length-drop}
 use Rattle.std.proofs.Math.Bool.{true, false, cond}
 use Rattle.std.proofs.Math.ListN.{length}
 use borrow.Author.Tests.{le-leb, lt-leb, leb-true}
-use Rattle.text.specs.declared.Printed.{Printed}
-use Rattle.text.specs.declared.Printed.TheVariants.{Whole, TooSmall}
+use Rattle.text.specs.declared.TooSmall.{TooSmall}
 use Rattle.decimals.specs.Wrote.{Room, Wrote, wrote_from_start}
 use Rattle.text.specs.Printed.{printed, after, PrintedAs, FitsIn}
 
 module _ (t out : List ℕ) where
-  pub printed_nothing : {n : ℕ} → n ≡ length t → length out < n → PrintedAs t out out (TooSmall n)
+  pub printed_nothing : {n : ℕ} → n ≡ length t → length out < n → PrintedAs t out out (Err (record { needed = n }))
   unfolding printed after
   printed_nothing {n} long small =
       let short = lt-leb (length t) (length out) (omega arith) in
-      record { answer_is = rw short (ap TooSmall long); after_is = rw short }
+      record { answer_is = rw short (ap (λ m. Err (record { needed = m })) long); after_is = rw short }
 
-  pub printed_whole : {out' : List ℕ} {end : ℕ} → Room out 0 t → Wrote out 0 t out' end → PrintedAs t out out' (Whole end)
+  pub printed_whole : {out' : List ℕ} {end : ℕ} → Room out 0 t → Wrote out 0 t out' end → PrintedAs t out out' (Ok end)
   unfolding printed after
   printed_whole {out'} {end} room wrote =
       let fits = le-leb (length t) (length out) (omega (arith, room.fits)) in
       let long : end ≡ length t = omega (arith, wrote.ends) in
-      record { answer_is = rw fits (ap Whole long); after_is = rw fits (wrote_from_start wrote) }
-
--- A text that stands written over the front of another buffer is printed from there.
-module _ {whole whole' t : List ℕ} {n : ℕ} (wrote : Wrote whole 0 t whole' n) where
-  pub front_length : n ≡ length (take n whole')
-  front_length = rw wrote.front (omega (arith, wrote.ends))
-
-  pub front_printed : {out out' : List ℕ} {r : Printed} → PrintedAs (take n whole') out out' r → PrintedAs t out out' r
-  front_printed = rw wrote.front (λ printed. printed)
+      record { answer_is = rw fits (ap Ok long); after_is = rw fits (wrote_from_start wrote) }
 
 -- Either answer tells how long the text is.
-module _ (t : List ℕ) (room : ℕ) {n : ℕ} where
-  pub whole_printed : Whole n ≡ printed t room → n ≡ length t
-  unfolding printed
-  whole_printed = go (leb (length t) room)
-    where
-      go : (b : Bool) → Whole n ≡ cond b (Whole (length t)) (TooSmall (length t)) → n ≡ length t
-      go true e = cc
-      go false e = let z : ◌≡◌ {A = ℕ} 0 1 = cc in absurd (omega arith)
+abbrev pub told_length : Result ℕ TooSmall → ℕ
+told_length (Ok n) = n
+told_length (Err small) = small.needed
 
-  pub too_small_printed : TooSmall n ≡ printed t room → n ≡ length t
-  unfolding printed
-  too_small_printed = go (leb (length t) room)
-    where
-      go : (b : Bool) → TooSmall n ≡ cond b (Whole (length t)) (TooSmall (length t)) → n ≡ length t
-      go true e = let z : ◌≡◌ {A = ℕ} 0 1 = cc in absurd (omega arith)
-      go false e = cc
+pub printed_tells : (t : List ℕ) (room : ℕ) → told_length (printed t room) ≡ length t
+unfolding printed
+printed_tells t room = elim (leb (length t) room) as (λ b. told_length (cond b (Ok (length t)) (Err (record { needed = length t }))) ≡ length t) [ true ↦ refl | false ↦ refl ]
 
 -- Printing keeps the buffer's length.
 length_after : (t out : List ℕ) → length (after t out) ≡ length out
@@ -61,12 +43,12 @@ length_after t out = go (leb (length t) (length out)) refl
     go false fits = refl
 
 -- What is printed whole lies inside the buffer as it is then.
-pub printed_fits : {t out out' : List ℕ} {r : Printed} → PrintedAs t out out' r → FitsIn (length out') r
+pub printed_fits : {t out out' : List ℕ} {r : Result ℕ TooSmall} → PrintedAs t out out' r → FitsIn (length out') r
 unfolding printed
 printed_fits {t} {out} {out'} p =
     subst (FitsIn (length out')) (sym p.answer_is)
     (subst (λ room. FitsIn room (printed t (length out))) (sym (ap length p.after_is ∙ length_after t out)) (go (leb (length t) (length out)) refl))
   where
-    go : (b : Bool) → leb (length t) (length out) ≡ b → FitsIn (length out) (cond b (Whole (length t)) (TooSmall (length t)))
+    go : (b : Bool) → leb (length t) (length out) ≡ b → FitsIn (length out) (cond b (Ok (length t)) (Err (record { needed = length t })))
     go true fits = leb-true (length t) (length out) fits
     go false fits = tt

@@ -20,7 +20,6 @@ use Rattle.demands.specs.Demand1.LabelBytes.{label_bytes_length}
 use Rattle.demands.specs.Ground.GoodRequest.{outcome_of_stopped}
 use Rattle.demands.specs.Demand2.WhatIsDue as due
 use Rattle.demands.specs.Demand2.WhatIsDue.{Due, seven, eight, nine, eleven, requests_get_their_due}
-use Rattle.decimals.specs.Wrote.{Room}
 use Rattle.bounds.specs.PlanBounds.{row_bounds}
 use Rattle.bounds.specs.AnswerBounds.{in_force_is_in_range, answer_in}
 use Rattle.text.specs.LineBounds.{first_line_at_most, range_line_at_most, row_line_at_most, lines_at_most}
@@ -57,9 +56,6 @@ module _ (M : Name) (s : List ℕ) where
   pub text_at_most : length (text_asked M s) ≤ 2_145
   unfolding text_asked
   text_at_most = rw length-append (omega (arith, first_line_at_most (answer_asked M s 64) (answer_in M s), rows_at_most))
-
-  pub room_for_text : (out : List ℕ) → 2_145 ≤ length out → Room out 0 (text_asked M s)
-  room_for_text out enough = record { fits = omega (arith, text_at_most) }
 
 pub range_at_most : (s : List ℕ) → length (range_text s) ≤ 24
 unfolding range_text range

@@ -1,23 +1,24 @@
 -- How long a line is at most, from how large its numbers are: the first, the range's, a row's; and so many lines.
-use Rattle.std.specs.Prelude.{ℕ, zero, suc, ◌+◌, ◌*◌, ◌≤◌, ◌<◌, ◌≡◌, List, length}
+use Rattle.std.specs.Prelude.{ℕ, zero, suc, ◌+◌, ◌*◌, ◌≤◌, ◌<◌, ◌≡◌, List, [], ◌∷◌, ◌++◌, length}
 use Rattle.std.proofs.Common.{mul-suc, arith, length-append}
 use Rattle.rules.specs.Rows.{Row}
 use Rattle.rules.specs.Answer.{Answer, planned, refused}
 use Rattle.rules.specs.Text.{bytes, decimal, line, first_line, row_line, lines}
 use Rattle.rules.specs.Range.{range_of, range_line}
 use Rattle.decimals.specs.Decimals.{decimal_length}
-use Rattle.decimals.specs.Fields.{four_numbers, four_fields}
-use Rattle.lines.specs.Lines.{two_line, two_fields}
 use Rattle.bounds.specs.PlanBounds.{RowBounds}
 use Rattle.bounds.specs.AnswerBounds.{AnswerIn}
 
 -- The digits of four numbers, and a byte after each.
 four_length : (a b c d : ℕ) →
-    length (four_numbers a b c d) ≡ length (decimal a) + length (decimal b) + length (decimal c) + length (decimal d) + 4
-four_length a b c d = rw (four_fields a b c d) (simp length-append (omega arith))
+    length (line (decimal a) (decimal b ∷ decimal c ∷ decimal d ∷ [])) ≡ length (decimal a) + length (decimal b) + length (decimal c) + length (decimal d) + 4
+unfolding line bytes
+four_length a b c d = simp length-append (omega arith)
 
-two_length : (opening : List ℕ) (a b : ℕ) → length (two_line opening a b) ≡ length opening + length (decimal a) + length (decimal b) + 2
-two_length opening a b = rw (two_fields opening a b) (simp length-append (omega arith))
+two_length : (opening : List ℕ) (a b : ℕ) →
+    length (opening ++ line (decimal a) (decimal b ∷ [])) ≡ length opening + length (decimal a) + length (decimal b) + 2
+unfolding line bytes
+two_length opening a b = simp length-append (omega arith)
 
 refusal_line_at_most : (number place : ℕ) → AnswerIn (refused number place) → length (first_line (refused number place)) ≤ 15
 unfolding first_line bytes
@@ -26,7 +27,7 @@ refusal_line_at_most number place (number_in, IsPlace_in) =
 
 -- The first line: `plan ` and four numbers, or `no ` and two.
 pub first_line_at_most : (a : Answer) → AnswerIn a → length (first_line a) ≤ 33
-unfolding first_line bytes four_numbers
+unfolding first_line bytes
 first_line_at_most (planned n long cost left) (n_in, long_in, cost_in, left_in) =
     omega (
       arith,
@@ -47,8 +48,8 @@ range_line_at_most (planned _ _ _ _) (refused number place) a_in b_in = omega (a
 range_line_at_most (refused number place) b a_in b_in = omega (arith, refusal_line_at_most number place a_in)
 
 row_line_length : (name : List ℕ) (r : Row) →
-    length (row_line name r) ≡ length name + suc (length (four_numbers r.processor r.start r.finish r.cost))
-unfolding row_line line bytes four_numbers
+    length (row_line name r) ≡ length name + suc (length (line (decimal r.processor) (decimal r.start ∷ decimal r.finish ∷ decimal r.cost ∷ [])))
+unfolding row_line line bytes
 row_line_length name r = length-append name _
 
 pub row_line_at_most : (name : List ℕ) (r : Row) → length name ≤ 8 → RowBounds r → length (row_line name r) ≤ 33

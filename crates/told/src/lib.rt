@@ -5,46 +5,37 @@ ghost use Rattle.std.specs.Prelude.{◌≡◌};
 ghost use Rattle.reader.specs.Meaning.{meant_deadline, meant_share};
 ghost use Rattle.planner.specs.Planned.{meant_answer, meant_costs};
 ghost use Rattle.reasons.specs.Meant.{meant_why};
-ghost use Rattle.told.specs.Told.{told_deadline, told_given, told_share, told_answer, told_costs, told_reason, told_why};
+ghost use Rattle.told.specs.Told.{told_deadline, told_given, told_share, told_answer, told_costs, told_why};
 
-use planner::{Answer, Costs};
-use reader::{Deadline, Share};
+use planner::{Answer, Range};
 use reasons::Why;
+use refusals::Refusal;
 
 // The minutes of a deadline; 0 for none.
-pub fn deadline_minutes(deadline: Deadline) -> u64
+pub fn deadline_minutes(deadline: Option<u64>) -> u64
     ensures { result ≡ told_deadline (meant_deadline deadline) }
 {
-    match deadline {
-        Deadline::Without => 0,
-        Deadline::By(minutes) => minutes,
-    }
+    deadline.unwrap_or(0)
 }
 
 // 1 for a share, 0 for none.
-pub fn is_given(share: Share) -> u64
+pub fn is_given(share: Option<u64>) -> u64
     ensures { result ≡ told_given (meant_share share) }
 {
-    match share {
-        Share::Without => 0,
-        Share::Of(_) => 1,
-    }
+    u64::from(share.is_some())
 }
 
 // The thousandths of a share; 0 for none.
-pub fn thousandths(share: Share) -> u64
+pub fn thousandths(share: Option<u64>) -> u64
     ensures { result ≡ told_share (meant_share share) }
 {
-    match share {
-        Share::Without => 0,
-        Share::Of(k) => k,
-    }
+    share.unwrap_or(0)
 }
 
 // How a request is answered. `number` is that of the refusal, 1 to 9 or 11, with its place; or 0 for a plan, with its number of tasks, its length, its cost and
 // the budget left.
 #[repr(C)]
-#[derive(Clone, Copy)]
+#[derive(Clone, Copy, Debug, Default, PartialEq, Eq)]
 pub struct ZabgurinAnswer {
     pub number: u64,
     pub place: u64,
@@ -54,38 +45,30 @@ pub struct ZabgurinAnswer {
     pub left: u64,
 }
 
-// The numbers of an answer.
-pub fn answer_told(answer: Answer) -> ZabgurinAnswer
-    ensures { result ≡ told_answer (meant_answer answer) }
-{
-    match answer {
-        Answer::Planned {
-            n,
-            length,
-            cost,
-            left,
-        } => ZabgurinAnswer {
-            number: 0,
-            place: 0,
-            tasks: n,
-            length,
-            cost,
-            left,
-        },
-        Answer::Refused { number, place } => ZabgurinAnswer {
-            number,
-            place,
-            tasks: 0,
-            length: 0,
-            cost: 0,
-            left: 0,
-        },
+impl From<Answer> for ZabgurinAnswer {
+    ghost from_gives = { λ answer told. told ≡ told_answer (meant_answer answer) };
+
+    fn from(answer: Answer) -> ZabgurinAnswer {
+        match answer {
+            Ok(plan) => ZabgurinAnswer {
+                tasks: plan.n,
+                length: plan.length,
+                cost: plan.cost,
+                left: plan.left,
+                ..ZabgurinAnswer::default()
+            },
+            Err(refusal) => ZabgurinAnswer {
+                number: refusal.fault.number(),
+                place: refusal.place,
+                ..ZabgurinAnswer::default()
+            },
+        }
     }
 }
 
 // What the cheapest plan and the HEFT plan cost. `number` is that of the refusal that both get, 1 to 6 or 8, with its place; or 0, with the costs.
 #[repr(C)]
-#[derive(Clone, Copy)]
+#[derive(Clone, Copy, Debug, Default, PartialEq, Eq)]
 pub struct ZabgurinCosts {
     pub number: u64,
     pub place: u64,
@@ -93,23 +76,22 @@ pub struct ZabgurinCosts {
     pub heft: u64,
 }
 
-// The numbers of the costs.
-pub fn costs_told(costs: Costs) -> ZabgurinCosts
-    ensures { result ≡ told_costs (meant_costs costs) }
-{
-    match costs {
-        Costs::Between { cheapest, heft } => ZabgurinCosts {
-            number: 0,
-            place: 0,
-            cheapest,
-            heft,
-        },
-        Costs::Refused { number, place } => ZabgurinCosts {
-            number,
-            place,
-            cheapest: 0,
-            heft: 0,
-        },
+impl From<Result<Range, Refusal>> for ZabgurinCosts {
+    ghost from_gives = { λ costs told. told ≡ told_costs (meant_costs costs) };
+
+    fn from(costs: Result<Range, Refusal>) -> ZabgurinCosts {
+        match costs {
+            Ok(range) => ZabgurinCosts {
+                cheapest: range.cheapest,
+                heft: range.heft,
+                ..ZabgurinCosts::default()
+            },
+            Err(refused) => ZabgurinCosts {
+                number: refused.fault.number(),
+                place: refused.place,
+                ..ZabgurinCosts::default()
+            },
+        }
     }
 }
 
@@ -117,7 +99,7 @@ pub fn costs_told(costs: Costs) -> ZabgurinCosts
 // `begin`; 2: its processor is down from `begin` up to `end`; 3: its processor runs `task` from `begin` up to `end`; 4: its own start is `begin`, so that minute is
 // not sooner; 5: there is no such task, the request has `task` of them. All else is 0.
 #[repr(C)]
-#[derive(Clone, Copy)]
+#[derive(Clone, Copy, Debug, Default, PartialEq, Eq)]
 pub struct ZabgurinWhy {
     pub number: u64,
     pub place: u64,
@@ -127,36 +109,46 @@ pub struct ZabgurinWhy {
     pub end: u64,
 }
 
-fn reason_told(reason: u64, task: u64, begin: u64, end: u64) -> ZabgurinWhy
-    ensures { result ≡ told_reason reason task begin end }
-{
-    ZabgurinWhy {
-        number: 0,
-        place: 0,
-        reason,
-        task,
-        begin,
-        end,
-    }
-}
+impl From<Why> for ZabgurinWhy {
+    ghost from_gives = { λ why told. told ≡ told_why (meant_why why) };
 
-// The numbers of a reason.
-pub fn why_told(why: Why) -> ZabgurinWhy
-    ensures { result ≡ told_why (meant_why why) }
-{
-    match why {
-        Why::LateData { from, minute } => reason_told(1, from, minute, 0),
-        Why::InWindow { begin, end } => reason_told(2, 0, begin, end),
-        Why::BesideRow { task, begin, end } => reason_told(3, task, begin, end),
-        Why::OwnStart { start } => reason_told(4, 0, start, 0),
-        Why::NoTask { tasks } => reason_told(5, tasks, 0, 0),
-        Why::NoPlan { number, place } => ZabgurinWhy {
-            number,
-            place,
-            reason: 0,
-            task: 0,
-            begin: 0,
-            end: 0,
-        },
+    #[tactic(auto, unfolding(reasons::specs::Meant::meant_why))]
+    fn from(why: Why) -> ZabgurinWhy {
+        match why {
+            Why::LateData { from, minute } => ZabgurinWhy {
+                reason: 1,
+                task: from,
+                begin: minute,
+                ..ZabgurinWhy::default()
+            },
+            Why::InWindow { begin, end } => ZabgurinWhy {
+                reason: 2,
+                begin,
+                end,
+                ..ZabgurinWhy::default()
+            },
+            Why::BesideRow { task, begin, end } => ZabgurinWhy {
+                reason: 3,
+                task,
+                begin,
+                end,
+                ..ZabgurinWhy::default()
+            },
+            Why::OwnStart { start } => ZabgurinWhy {
+                reason: 4,
+                begin: start,
+                ..ZabgurinWhy::default()
+            },
+            Why::NoTask { tasks } => ZabgurinWhy {
+                reason: 5,
+                task: tasks,
+                ..ZabgurinWhy::default()
+            },
+            Why::NoPlan { number, place } => ZabgurinWhy {
+                number,
+                place,
+                ..ZabgurinWhy::default()
+            },
+        }
     }
 }

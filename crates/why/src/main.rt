@@ -3,22 +3,15 @@
 #![tactic(auto)]
 
 use std::env::Env;
-use std::io::Write;
 
 fn main(rt: HostRuntime) {
     let mut task = [0u8; 32];
     let task_length = rt.arg(1, &mut task).unwrap_or(0);
     let mut start = [0u8; 32];
     let start_length = rt.arg(2, &mut start).unwrap_or(0);
-    let mut request = [0u8; 16384];
-    let read = programs::read_full(&mut rt.stdin(), &mut request);
-    let mut out = [0u8; 192];
-    let length = programs::why_text(
-        &request[..read],
-        &task[..task_length],
-        &start[..start_length],
-        &mut out,
-    );
     // A closed output ends it quietly.
-    rt.stdout().write_all(&out[..length]).ok();
+    programs::answer(&mut rt.stdin(), &mut rt.stdout(), |request, out| {
+        programs::why_text(request, &task[..task_length], &start[..start_length], out)
+    })
+    .ok();
 }

@@ -1,22 +1,18 @@
--- By the cases of the reading: a refusal handed up, or the plan of a good request.
-use mathlib.Core.Path.{sym, ap, ◌∙◌}
+-- A refusal in reading is handed up; or the plan of a good request.
+use Rattle.std.proofs.Common.{◌≡◌}
+use Rattle.std.proofs.lemmas.Result.{err_from_is_err_and}
 use Rattle.rules.specs.Answer.{outcome_asked, outcome_read}
-use Rattle.reader.specs.Meaning.{meant_reading}
 use Rattle.planner.specs.Plans.{refused_plan}
 use Rattle.asked.proofs.plan_columns.Goals as goal
 
-pub plan_good-requires : goal.plan_good-requires
-plan_good-requires c =
-    record { view_of = sym c.read_request-reading.ensures ∙ ap (meant_reading c.args.request.now) c.in-Good.is; columns = c.requires }
-
-pub returns-in-Good : goal.returns-in-Good
+pub returns-in_err-r : goal.returns-in_err-r
 unfolding outcome_asked outcome_read
-returns-in-Good c =
-    let s = c.args.request.now in
-    rw (sym c.read_request-reading.ensures ∙ ap (meant_reading s) c.in-Good.is) c.plan_good.ensures
+returns-in_err-r c =
+    let p = err_from_is_err_and c.from_residual.result c.from_residual.ensures.1 in
+    rw (p.1, p.2, c.in_err-r.ensures) (refused_plan c.requires _)
 
-pub returns-in-Refused : goal.returns-in-Refused
+pub returns : goal.returns
 unfolding outcome_asked outcome_read
-returns-in-Refused c =
-    let s = c.args.request.now in
-    rw (sym c.read_request-reading.ensures ∙ ap (meant_reading s) c.in-Refused.is) (refused_plan c.requires _ _)
+returns c =
+    let same : c.in_ok-r.r.bytes.now ≡ c.args.request.now = c.in_ok-r.ensures in
+    rw (← same, c.in_ok-r.r.good) c.plan_good.ensures

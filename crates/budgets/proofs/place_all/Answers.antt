@@ -8,14 +8,14 @@ use Rattle.placing.specs.Begins.{placed_as}
 use Rattle.budgets.specs.Ready.{outset_fits}
 use Rattle.budgets.proofs.place_all.Goals as goal
 
-pub place-requires : goal.place-requires
+pub place-requires-clause-in_order : goal.place-requires-clause-in_order
 unfolding workflow
-place-requires c =
-    let prepared = c.requires.prepared in
-    let (in_order, few, ended) = outset_fits c.args.s.now c.args.v prepared.good c.busy_at_first-outset.ensures.1 in record { view_of = prepared.good; ranks_of = (prepared.ranks_of, prepared.cheapest_is, prepared.charges_of); v_value = (prepared.no_cycle, prepared.begins); in_order = (in_order, few, ended, omega arith, c.requires.budget_le_budget_most); columns = c.requires.columns }
+place-requires-clause-in_order c =
+    let (in_order, few, ended) = outset_fits c.args.r.now.bytes.now c.args.r.now.view c.requires.prepared.good c.busy_at_first-outset.ensures.1 in
+    (in_order, few, ended, omega arith, c.requires.budget_le_budget_most)
 
 pub returns : goal.returns
 unfolding workflow
 returns c =
-    let range = view_in_range c.args.s.now c.args.v c.requires.prepared.good in
+    let range = view_in_range c.args.r.now.bytes.now c.args.r.now.view c.requires.prepared.good in
     placed_as range c.busy_at_first-outset.ensures.1 (meant_method c.args.method) c.args.budget no_deadline c.place.ensures

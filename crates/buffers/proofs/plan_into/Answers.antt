@@ -1,71 +1,69 @@
 -- The plan's columns are stored over the front of the buffers, as many numbers of each as the answer has rows.
-use Prim.Native.Nat.{◌≤◌, min}
-use Rattle.rules.specs.Answer.{Outcome, outcome_asked, answer_asked}
+use Rattle.std.proofs.Common.{◌≡◌, ◌≤◌, ℕ, List, length, arith}
+use Rattle.rules.specs.Method.{Name}
+use Rattle.rules.specs.Answer.{outcome_asked, answer_asked}
 use Rattle.rules.specs.Buffers.{Buffers, rows_lent, buffers_written, buffers_asked}
 use Rattle.choosing.specs.Named.{meant_method}
-use Rattle.placing.specs.Arrays.{columns_first}
-use Rattle.planner.specs.declared.Planning.{Planning}
-use Rattle.planner.specs.Planned.{PlanOf, planned_in}
+use Rattle.budgets.specs.declared.Rows.{Rows}
+use Rattle.planner.specs.Planned.{Answer, PlanOf, planned_in, rows_told}
 use Rattle.planner.specs.Reach.{rows_in_reach}
-use Rattle.buffers.specs.Into.{four}
+use Rattle.laws.specs.Overwritten.{overwritten}
+use Rattle.laws.specs.Stores.{at}
+use Rattle.buffers.specs.Into.{four, PlannedInto}
 use Rattle.buffers.specs.Stored.{column_stored}
-use native.Mathlib.Omega.{arith}
-use Rattle.buffers.proofs.plan_into.Lts as lts
-use Rattle.buffers.proofs.plan_into.Tie as tie
-use Rattle.buffers.proofs.plan_into.Reads as reads
 use Rattle.buffers.proofs.plan_into.Goals as goal
 
-abbrev At-After-rows_of-n : Type 0
-At-After-rows_of-n = lts.After-rows_of tie.the-claims reads.Pre reads.Post
+module _ (M : Name) (s : List ℕ) (b : Buffers) {lent n : ℕ} {rows : Rows} {answer : Answer} (shortest : lent ≡ rows_lent b)
+    (planned : PlanOf (outcome_asked M s lent) (planned_in rows answer)) (count : n ≡ rows_told answer) where
+  in_reach : (n ≤ 64) × (n ≤ length b.processors) × (n ≤ length b.starts) × (n ≤ length b.finishes) × (n ≤ length b.costs)
+  unfolding rows_lent
+  in_reach =
+      let reach = rows_in_reach M s lent answer planned.answer_is in
+      (omega arith, omega arith, omega arith, omega arith, omega arith)
 
-abbrev lent : At-After-rows_of-n → Buffers
-lent c = let a = c.args in
-    four a.processors.now a.starts.now a.finishes.now a.costs.now
-
-abbrev plan-of : At-After-rows_of-n → Planning
-plan-of c = planned_in c.plan_columns-answer.new.processors c.plan_columns-answer.new.starts c.plan_columns-answer.new.finishes c.plan_columns-answer.new.costs c.plan_columns-answer.result
-
-abbrev outcome-due : At-After-rows_of-n → Outcome
-outcome-due c = let a = c.args in
-    outcome_asked (meant_method a.method) a.request.now (rows_lent (lent c))
-
-planned : (c : At-After-rows_of-n) → PlanOf (outcome-due c) (plan-of c)
-unfolding rows_lent
-planned c = rw c.shortest-lent.ensures at c.plan_columns-answer.ensures
-
-in_reach : (c : At-After-rows_of-n) → c.rows_of-n.result ≤ min (rows_lent (lent c)) 64
-in_reach c = rw c.rows_of-n.ensures (rows_in_reach _ _ _ (plan-of c).answer (planned c).answer_is)
-
-pub plan_columns-answer-requires : goal.plan_columns-answer-requires
-plan_columns-answer-requires c = columns_first
+  stored : {p s' f k : List ℕ} → p ≡ overwritten n (at rows.processors) b.processors → s' ≡ overwritten n (at rows.starts) b.starts
+      → f ≡ overwritten n (at rows.finishes) b.finishes → k ≡ overwritten n (at rows.costs) b.costs → PlannedInto M s b (four p s' f k) answer
+  unfolding answer_asked buffers_asked buffers_written
+  stored processors starts finishes costs =
+      let o = outcome_asked M s (rows_lent b) in
+      let is = rw shortest at planned in
+      let p = column_stored (λ row. row.processor) b.processors o answer is.answer_is count is.columns.processors_hold processors in
+      let s = column_stored (λ row. row.start) b.starts o answer is.answer_is count is.columns.starts_hold starts in
+      let f = column_stored (λ row. row.finish) b.finishes o answer is.answer_is count is.columns.finishes_hold finishes in
+      let k = column_stored (λ row. row.cost) b.costs o answer is.answer_is count is.columns.costs_hold costs in
+      record { answer_is = is.answer_is; after_is = λ t. four (p t) (s t) (f t) (k t) }
 
 pub store-requires : goal.store-requires
 unfolding rows_lent
-store-requires c = let fits = in_reach c.before.before.before in (omega arith, omega arith)
+store-requires c =
+    let a = c.args in
+    let fits = in_reach (meant_method a.method) a.request.now (four a.processors.now a.starts.now a.finishes.now a.costs.now) c.shortest-lent.ensures c.plan_columns-answer.ensures c.rows_of-n.ensures in
+    (fits.0, fits.1)
 
 pub store-requires-2 : goal.store-requires-2
 unfolding rows_lent
-store-requires-2 c = let fits = in_reach c.before.before.before.before.before.before.before.before in (omega arith, omega arith)
+store-requires-2 c =
+    let a = c.args in
+    let fits = in_reach (meant_method a.method) a.request.now (four a.processors.now a.starts.now a.finishes.now a.costs.now) c.shortest-lent.ensures c.plan_columns-answer.ensures c.rows_of-n.ensures in
+    (fits.0, fits.2)
 
 pub store-requires-3 : goal.store-requires-3
 unfolding rows_lent
-store-requires-3 c = let fits = in_reach c.before.before.before.before.before.before.before.before.before.before.before.before.before in (omega arith, omega arith)
+store-requires-3 c =
+    let a = c.args in
+    let fits = in_reach (meant_method a.method) a.request.now (four a.processors.now a.starts.now a.finishes.now a.costs.now) c.shortest-lent.ensures c.plan_columns-answer.ensures c.rows_of-n.ensures in
+    (fits.0, fits.3)
 
 pub store-requires-4 : goal.store-requires-4
 unfolding rows_lent
-store-requires-4 c = let fits = in_reach c.before.before.before.before.before.before.before.before.before.before.before.before.before.before.before.before.before.before in (omega arith, omega arith)
+store-requires-4 c =
+    let a = c.args in
+    let fits = in_reach (meant_method a.method) a.request.now (four a.processors.now a.starts.now a.finishes.now a.costs.now) c.shortest-lent.ensures c.plan_columns-answer.ensures c.rows_of-n.ensures in
+    (fits.0, fits.4)
 
 pub returns : goal.returns
-unfolding answer_asked buffers_asked buffers_written
+unfolding rows_lent
 returns c =
-    let b = lent c.before.before.before.before.before.before.before.before.before.before.before.before.before.before.before.before.before.before.before.before.before in
-    let o = outcome-due c.before.before.before.before.before.before.before.before.before.before.before.before.before.before.before.before.before.before.before.before.before in
-    let answer = (plan-of c.before.before.before.before.before.before.before.before.before.before.before.before.before.before.before.before.before.before.before.before.before).answer in
-    let is = (planned c.before.before.before.before.before.before.before.before.before.before.before.before.before.before.before.before.before.before.before.before.before).answer_is in
-    let columns = (planned c.before.before.before.before.before.before.before.before.before.before.before.before.before.before.before.before.before.before.before.before.before).columns in
-    let count = c.rows_of-n.ensures in
-    let processors = column_stored (λ row. row.processor) b.processors o answer is count columns.processors_hold c.store.ensures in
-    let starts = column_stored (λ row. row.start) b.starts o answer is count columns.starts_hold c.store-2.ensures in
-    let finishes = column_stored (λ row. row.finish) b.finishes o answer is count columns.finishes_hold c.store-3.ensures in
-    let costs = column_stored (λ row. row.cost) b.costs o answer is count columns.costs_hold c.store-4.ensures in
-    record { answer_is = is; after_is = λ t. four (processors t) (starts t) (finishes t) (costs t) }
+    let a = c.args in
+    stored (meant_method a.method) a.request.now (four a.processors.now a.starts.now a.finishes.now a.costs.now) c.shortest-lent.ensures c.plan_columns-answer.ensures c.rows_of-n.ensures
+    c.store.ensures c.store-2.ensures c.store-3.ensures c.store-4.ensures

@@ -1,9 +1,11 @@
--- Each field is taken by the one test, as the whole is.
-use Rattle.choosing.specs.LeadingLaws.{led_by_parts}
+-- One that is ahead leads; else the leader stays.
+use Rattle.choosing.specs.Leading.{led_by}
 use Rattle.choosing.proofs.led.Goals as goal
 
-pub returns : goal.returns
-returns c =
-    let ahead = c.ahead-t in
-    let processor = c.either_number in
-    rw (processor.ensures, c.either.ensures, c.either-2.ensures) (led_by_parts _ _ _ ahead.result _ ahead.ensures)
+pub returns-then-ahead : goal.returns-then-ahead
+unfolding led_by
+returns-then-ahead c = rw (← c.ahead.ensures, c.if-ahead.true)
+
+pub returns-else-ahead : goal.returns-else-ahead
+unfolding led_by
+returns-else-ahead c = rw (← c.ahead.ensures, c.if-ahead.false)

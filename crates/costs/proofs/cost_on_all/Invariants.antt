@@ -1,11 +1,7 @@
-use Prim.Native.Nat.{◌≤◌, ◌-◌}
 use Rattle.rules.specs.Ranks.{cost}
-use Rattle.lookup.specs.Lookup.{workflow_of}
+use Rattle.lookup.specs.Flow.{flow}
 use Rattle.laws.specs.Filled.{Filled}
 use Rattle.costs.proofs.cost_on_all.Given as goal
 
 abbrev pub invariant-loop-j : goal.invariant-loop-j
-invariant-loop-j l = (l.j ≤ l.v.processors) × Filled l.j (cost (workflow_of l.s l.v) l.task) l.all
-
-abbrev pub decreases-loop-j : goal.decreases-loop-j
-decreases-loop-j l = l.v.processors - l.j
+invariant-loop-j l = Filled l.j (cost (flow l.r) l.task) l.all

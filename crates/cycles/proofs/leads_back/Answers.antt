@@ -1,7 +1,7 @@
 -- What is marked is led to; once a pass marks nothing more, all that is led to is marked.
 use mathlib.Core.Path.{◌≡◌}
 use Rattle.rules.specs.Workflow.{workflow}
-use Rattle.lookup.specs.Lookup.{workflow_of}
+use Rattle.lookup.specs.Flow.{flow}
 use Rattle.lookup.specs.Views.{view_in_range}
 use Rattle.laws.specs.Turned.{turned_still, turned_less}
 use Rattle.cycles.specs.MarkedLaws.{marked_none, start_marked, all_marked}
@@ -13,17 +13,7 @@ unfolding workflow
 loop-left-init c =
     let pre = c.requires in
     let a = c.args in
-    marked_none (workflow_of a.s.now a.v) (view_in_range a.s.now a.v pre.view_of) a.start
-
-pub mark_pass-left-requires : goal.mark_pass-left-requires
-mark_pass-left-requires c = record { view_of = c.requires.view_of; marked_so_far = c.loop-left.invariant }
-
-pub bounds-marks-start : goal.bounds-marks-start
-unfolding workflow
-bounds-marks-start c =
-    let pre = c.requires in
-    let a = c.args in
-    omega (arith, pre.start_lt_tasks, (view_in_range a.s.now a.v pre.view_of).tasks_in)
+    marked_none (flow a.r.now) (view_in_range a.r.now.bytes.now a.r.now.view c.args.r.now.good) a.start
 
 pub returns-then-left-before : goal.returns-then-left-before
 unfolding workflow
@@ -32,8 +22,8 @@ returns-then-left-before c =
     let a = c.args in
     let mark-pass = c.mark_pass-left in
     let if1 = c.if-left-before in
-    let W = workflow_of a.s.now a.v in
-    let range = view_in_range a.s.now a.v pre.view_of in
+    let W = flow a.r.now in
+    let range = view_in_range a.r.now.bytes.now a.r.now.view c.args.r.now.good in
     let turned = mark-pass.ensures in
     start_marked W range a.start _ (turned_still turned if1.true) _ turned.kept
 
@@ -49,7 +39,7 @@ returns c =
     let pre = c.requires in
     let a = c.args in
     let loop = c.loop-left in
-    let W = workflow_of a.s.now a.v in
-    let range = view_in_range a.s.now a.v pre.view_of in
+    let W = flow a.r.now in
+    let range = view_in_range a.r.now.bytes.now a.r.now.view c.args.r.now.good in
     let none : loop.left ≡ 0 = omega arith in
-    all_marked W range a.start loop.marks pre.start_lt_tasks (rw none at loop.invariant)
+    all_marked W range a.start loop.marks pre (rw none at loop.invariant)

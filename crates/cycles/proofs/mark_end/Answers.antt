@@ -4,21 +4,12 @@ use Prim.Native.Nat.{ℕ}
 use mathlib.Core.Bool.{◌||◌, true≢false}
 use lib.Dec.{eqb}
 use Rattle.rules.specs.Workflow.{workflow}
-use Rattle.lookup.specs.Lookup.{workflow_of}
+use Rattle.lookup.specs.Flow.{flow}
 use Rattle.lookup.specs.Views.{view_in_range}
 use Rattle.laws.specs.Turned.{turned_none}
 use Rattle.cycles.specs.Marked.{marked}
 use Rattle.cycles.specs.MarkedLaws.{mark_turned, some_left}
-use native.Mathlib.Omega.{arith}
 use Rattle.cycles.proofs.mark_end.Goals as goal
-
-pub bounds-marks-to : goal.bounds-marks-to
-unfolding workflow
-bounds-marks-to c =
-    let pre = c.requires in
-    let a = c.args in
-    let to = c.to-to in
-    omega (arith, to.ensures.1, (view_in_range a.s.now a.v pre.view_of).tasks_in)
 
 pub returns-then-marks-to : goal.returns-then-marks-to
 returns-then-marks-to c =
@@ -26,23 +17,7 @@ returns-then-marks-to c =
     let a = c.args in
     let to = c.to-to in
     let if1 = c.if-marks-to in
-    turned_none pre.edge_lt_edges.1 (λ h. ap (marked a.marks.now) (sym to.ensures.0) ∙ if1.true)
-
-pub reached-requires : goal.reached-requires
-unfolding workflow
-reached-requires c =
-    let pre = c.requires in
-    let a = c.args in
-    let from = c.from in
-    omega (arith, from.ensures.1, (view_in_range a.s.now a.v pre.view_of).tasks_in)
-
-pub bounds-marks-to-then-reached : goal.bounds-marks-to-then-reached
-unfolding workflow
-bounds-marks-to-then-reached c =
-    let pre = c.requires in
-    let a = c.args in
-    let to = c.to-to in
-    omega (arith, to.ensures.1, (view_in_range a.s.now a.v pre.view_of).tasks_in)
+    turned_none pre.1 (λ h. ap (marked a.marks.now) (sym to.ensures.0) ∙ if1.true)
 
 pub overflow_sub-result : goal.overflow_sub-result
 unfolding workflow
@@ -51,10 +26,10 @@ overflow_sub-result c =
     let a = c.args in
     let to = c.to-to in
     let if1 = c.if-marks-to in
-    let W = workflow_of a.s.now a.v in
-    let range = view_in_range a.s.now a.v pre.view_of in
+    let W = flow a.r.now in
+    let range = view_in_range a.r.now.bytes.now a.r.now.view c.args.r.now.good in
     let free = ap (marked a.marks.now) (sym to.ensures.0) ∙ if1.false in
-    some_left W range a.start a.marks.now a.left a.edge pre.edge_lt_edges.1 pre.edge_lt_edges.0 free
+    some_left W range a.start a.marks.now a.left a.edge pre.1 pre.0 free
 
 pub returns-then-reached : goal.returns-then-reached
 unfolding workflow
@@ -66,13 +41,13 @@ returns-then-reached c =
     let from = c.from in
     let reached = c.reached in
     let if2 = c.if-reached in
-    let W = workflow_of a.s.now a.v in
-    let range = view_in_range a.s.now a.v pre.view_of in
+    let W = flow a.r.now in
+    let range = view_in_range a.r.now.bytes.now a.r.now.view c.args.r.now.good in
     let free = ap (marked a.marks.now) (sym to.ensures.0) ∙ if1.false in
     let there = ap (λ (x : ℕ). eqb x a.start || marked a.marks.now x) (sym from.ensures.0) in
     let is-reached = there ∙ sym reached.ensures ∙ if2.true in
     rw to.ensures.0
-    (mark_turned W range a.start a.marks.now a.left a.edge pre.edge_lt_edges.1 pre.edge_lt_edges.0 free is-reached)
+    (mark_turned W range a.start a.marks.now a.left a.edge pre.1 pre.0 free is-reached)
 
 pub returns : goal.returns
 returns c =
@@ -83,4 +58,4 @@ returns c =
     let if2 = c.if-reached in
     let there = ap (λ (x : ℕ). eqb x a.start || marked a.marks.now x) (sym from.ensures.0) in
     let other = there ∙ sym reached.ensures ∙ if2.false in
-    turned_none pre.edge_lt_edges.1 (λ h. absurd (true≢false (sym h ∙ other)))
+    turned_none pre.1 (λ h. absurd (true≢false (sym h ∙ other)))

@@ -6,23 +6,18 @@ use Rattle.lookup.specs.Parts.{part_inside, part_slice}
 use native.Mathlib.Omega.{arith}
 use Rattle.lookup.proofs.label.Goals as goal
 
-pub overflow_add-end : goal.overflow_add-end
-overflow_add-end c =
-    let a = c.args in
-    let label_part = c.label_part-part in
-    omega (arith, part_inside a.s.now a.task label_part.result label_part.ensures)
+pub overflow_add-result : goal.overflow_add-result
+overflow_add-result c = let part = c.label_part-begin in
+    omega (arith, part_inside c.args.s.now c.args.task part.result part.ensures)
 
 pub slice_bounds-result-end : goal.slice_bounds-result-end
-slice_bounds-result-end c =
-    let a = c.args in
-    let label_part = c.label_part-part in
-    omega (arith, part_inside a.s.now a.task label_part.result label_part.ensures)
+slice_bounds-result-end c = let part = c.label_part-begin in
+    omega (arith, part_inside c.args.s.now c.args.task part.result part.ensures)
 
 pub returns : goal.returns
 returns c =
-    let a = c.args in
-    let label_part = c.label_part-part in
+    let part = c.label_part-begin in
     record {
-      bytes_are = part_slice a.s.now a.task label_part.result label_part.ensures;
-      stands_at = ap (λ (p : Part). (a.s.ref_ptr.0, p.begin + a.s.ref_ptr.1)) label_part.ensures;
+      bytes_are = part_slice c.args.s.now c.args.task part.result part.ensures;
+      stands_at = ap (λ (p : Part). (c.args.s.ref_ptr.0, p.begin + c.args.s.ref_ptr.1)) part.ensures;
     }

@@ -1,25 +1,12 @@
--- The loop has read the first j processor records, up to the cursor.
-use mathlib.Core.Path.{ap}
-use Rattle.rules.specs.Reading.{prices_part}
-use Rattle.records.specs.Meaning.{meant}
-use Rattle.parts.proofs.Laws.{none_reached, one_more_reached, refused_there, all_reached}
+use Rattle.std.proofs.Common.{◌∙◌, rules}
+use Rattle.rules.specs.Reading.{prices_part, then}
+use Rattle.rules.specs.Records.{processor_at}
+use Rattle.parts.specs.Meaning.{past}
+use Rattle.parts.proofs.Laws.{each_past}
 use Rattle.parts.proofs.read_prices.Goals as goal
 
-pub loop-j-init : goal.loop-j-init
-loop-j-init c = none_reached
-
-pub returns-in_default : goal.returns-in_default
-unfolding prices_part
-returns-in_default c =
-    rw (c.handed_up.ensures, c.in_default.is)
-    (refused_there c.loop-j.invariant c.loop-j-test.true c.read_processor-answer.ensures
-    (ap meant c.in_default.is))
-
-pub loop-j-preserved : goal.loop-j-preserved
-loop-j-preserved c =
-    one_more_reached c.loop-j.invariant c.loop-j-test.true c.read_processor-answer.ensures
-    (ap meant c.in-Read.is)
-
 pub returns : goal.returns
-unfolding prices_part
-returns c = all_reached c.loop-j.invariant c.loop-j-test.false
+unfolding prices_part then
+returns c =
+    c.each.ensures (λ at j. past (processor_at c.args.s.now at j)) (λ next j r answers. search rules)
+    ∙ each_past (processor_at c.args.s.now) c.args.c.at c.args.m

@@ -1,22 +1,13 @@
--- The loop has read the first j records of minutes, up to the cursor.
-use mathlib.Core.Path.{ap}
-use Rattle.records.specs.Meaning.{meant}
-use Rattle.parts.proofs.Laws.{none_reached, one_more_reached, refused_there, all_reached}
+-- Each call reads the minutes on the processor that is due.
+use Rattle.std.proofs.Common.{◌∙◌, rules}
+use Rattle.rules.specs.Reading.{then}
+use Rattle.rules.specs.Records.{minutes_at}
+use Rattle.parts.specs.Meaning.{past}
+use Rattle.parts.proofs.Laws.{each_past}
 use Rattle.parts.proofs.read_row.Goals as goal
 
-pub loop-j-init : goal.loop-j-init
-loop-j-init c = none_reached
-
-pub returns-in_default : goal.returns-in_default
-returns-in_default c =
-    rw (c.handed_up.ensures, c.in_default.is)
-    (refused_there c.loop-j.invariant c.loop-j-test.true c.read_minutes-answer.ensures
-    (ap meant c.in_default.is))
-
-pub loop-j-preserved : goal.loop-j-preserved
-loop-j-preserved c =
-    one_more_reached c.loop-j.invariant c.loop-j-test.true c.read_minutes-answer.ensures
-    (ap meant c.in-Read.is)
-
 pub returns : goal.returns
-returns c = all_reached c.loop-j.invariant c.loop-j-test.false
+unfolding then
+returns c =
+    c.each.ensures (λ at j. past (minutes_at c.args.s.now at c.args.task j)) (λ next j r answers. search rules)
+    ∙ each_past (λ at j. minutes_at c.args.s.now at c.args.task j) c.args.c.at c.args.m

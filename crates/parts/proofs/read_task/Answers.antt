@@ -1,12 +1,13 @@
--- A `T`, and then what `read_row` reads.
-use Rattle.rules.specs.Reading.{then, task_part}
-use Rattle.parts.proofs.read_task.Reads as reads
+-- The task is refused, or its minutes answer.
+use Rattle.std.proofs.Common.{refl}
+use Rattle.rules.specs.Reading.{task_part, then}
+use Rattle.parts.proofs.Laws.{part_refused}
 use Rattle.parts.proofs.read_task.Goals as goal
 
-pub returns-in_default : goal.returns-in_default
+pub returns-in_err-after : goal.returns-in_err-after
 unfolding task_part then
-returns-in_default c = rw (c.handed_up.ensures, ← c.read_task-answer.ensures, c.in_default.is)
+returns-in_err-after c = part_refused _ _ _ c.from_residual.ensures.1 (rw (← c.in_err-after.ensures) refl)
 
 pub returns : goal.returns
 unfolding task_part then
-returns c = rw (← c.read_task-answer.ensures, c.in-Read.is) c.read_row.ensures
+returns c = rw (← c.in_ok-after.ensures) c.read_row.ensures

@@ -1,10 +1,7 @@
-use Prim.Native.Nat.{◌-◌, ◌≤◌}
-use mathlib.Core.Path.{◌≡◌}
+-- After i turns the first i bytes are read.
+use Rattle.std.proofs.Common.{◌≡◌}
 use Rattle.programs.specs.Spelled.{spelled, Small}
 use Rattle.programs.proofs.number_of.Given as goal
 
-abbrev pub invariant-loop-i : goal.invariant-loop-i
-invariant-loop-i l = (l.i ≤ l.n) × Small l.i l.x × (l.x ≡ spelled l.i l.digits)
-
-abbrev pub decreases-loop-i : goal.decreases-loop-i
-decreases-loop-i l = l.n - l.i
+abbrev pub invariant-loop-b : goal.invariant-loop-b
+invariant-loop-b l = Small l.b-index l.x × (l.x ≡ spelled l.b-index l.digits)

@@ -3,4 +3,4 @@ use Rattle.programs.proofs.TextIn.{text_in}
 use Rattle.programs.proofs.plan_text.Goals as goal
 
 pub returns : goal.returns
-returns c = text_in c.print-printed.ensures c.bytes_of.ensures
+returns c = text_in c.print.ensures c.bytes_of.ensures

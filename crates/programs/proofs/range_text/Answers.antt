@@ -3,4 +3,4 @@ use Rattle.programs.proofs.TextIn.{text_in}
 use Rattle.programs.proofs.range_text.Goals as goal
 
 pub returns : goal.returns
-returns c = text_in c.print_range-printed.ensures c.bytes_of.ensures
+returns c = text_in c.print_range.ensures c.bytes_of.ensures

@@ -8,4 +8,4 @@ pub returns : goal.returns
 returns c =
     let request = c.args.request.now in
     rw (ap₂ (λ i t. why_text (why_not request i t)) c.number_of-number.ensures c.number_of-minute.ensures) at
-    (text_in c.print_why-printed.ensures c.bytes_of.ensures)
+    (text_in c.print_why.ensures c.bytes_of.ensures)

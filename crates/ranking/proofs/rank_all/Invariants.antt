@@ -1,9 +1,9 @@
-use Rattle.lookup.specs.Lookup.{workflow_of}
+use Rattle.lookup.specs.Flow.{flow}
 use Rattle.ranking.specs.Ranked.{RankedSoFar}
 use Rattle.ranking.proofs.rank_all.Given as goal
 
 abbrev pub invariant-loop-left : goal.invariant-loop-left
-invariant-loop-left l = RankedSoFar (workflow_of l.s l.v) l.ranks l.left
+invariant-loop-left l = RankedSoFar (flow l.r) l.ranks l.left
 
 abbrev pub decreases-loop-left : goal.decreases-loop-left
 decreases-loop-left l = l.left

@@ -3,7 +3,7 @@ use mathlib.Core.Path.{◌≡◌, sym, ap, ◌∙◌}
 use Prim.Native.Nat.{ℕ, ◌+◌, ◌*◌, ◌-◌, max}
 use native.Mathlib.Nat.{mul-le-mul}
 use Rattle.rules.specs.Workflow.{workflow}
-use Rattle.lookup.specs.Lookup.{workflow_of}
+use Rattle.lookup.specs.Flow.{flow}
 use Rattle.lookup.specs.Views.{view_in_range}
 use Rattle.laws.specs.Stores.{at}
 use Rattle.ranking.specs.Passed.{passed_none, passed_more, passed_all, held_up_here}
@@ -14,29 +14,13 @@ pub loop-e-init : goal.loop-e-init
 loop-e-init c =
     let pre = c.requires in
     let a = c.args in
-    let W = workflow_of a.s.now a.v in
-    let range = view_in_range a.s.now a.v pre.view_of in
+    let W = flow a.r.now in
+    let range = view_in_range a.r.now.bytes.now a.r.now.view c.args.r.now.good in
     passed_none W range a.ranks.now a.task a.begin a.end pre.begins.0 pre.begins.1
 
 pub to-requires : goal.to-requires
 unfolding workflow
-to-requires c = record { view_of = c.requires.view_of; edge_lt_edges = omega (arith, c.requires.begins.1.within) }
-
-pub offset_bounds-ranks-to : goal.offset_bounds-ranks-to
-unfolding workflow
-offset_bounds-ranks-to c =
-    let pre = c.requires in
-    let a = c.args in
-    let to = c.to in
-    omega (arith, to.ensures.1, (view_in_range a.s.now a.v pre.view_of).tasks_in)
-
-pub bounds-ranks-to : goal.bounds-ranks-to
-unfolding workflow
-bounds-ranks-to c =
-    let pre = c.requires in
-    let a = c.args in
-    let to = c.to in
-    omega (arith, to.ensures.1, (view_in_range a.s.now a.v pre.view_of).tasks_in)
+to-requires c = omega (arith, c.requires.begins.1.within)
 
 pub returns-then-onward-eq0 : goal.returns-then-onward-eq0
 returns-then-onward-eq0 c =
@@ -46,17 +30,15 @@ returns-then-onward-eq0 c =
     let loop-test = c.loop-e-test in
     let to = c.to in
     let if1 = c.if-onward-eq0 in
-    let W = workflow_of a.s.now a.v in
-    let range = view_in_range a.s.now a.v pre.view_of in
+    let W = flow a.r.now in
+    let range = view_in_range a.r.now.bytes.now a.r.now.view c.args.r.now.good in
     let unknown = ap (at a.ranks.now) (sym to.ensures.0) ∙ if1.true in
     held_up_here W range a.ranks.now a.task a.begin a.end pre.begins.0 pre.begins.1 loop.e loop-test.true
     loop.invariant.from_begin unknown
 
 pub transfer-requires : goal.transfer-requires
 unfolding workflow
-transfer-requires c =
-    let pre = c.requires in
-    record { view_of = pre.view_of; edge_lt_edges = omega (arith, pre.begins.1.within) }
+transfer-requires c = omega (arith, c.requires.begins.1.within)
 
 pub overflow_mul-processors : goal.overflow_mul-processors
 unfolding workflow
@@ -64,7 +46,7 @@ overflow_mul-processors c =
     let pre = c.requires in
     let a = c.args in
     let transfer = c.transfer in
-    let range = view_in_range a.s.now a.v pre.view_of in
+    let range = view_in_range a.r.now.bytes.now a.r.now.view c.args.r.now.good in
     omega (arith, mul-le-mul range.processors_in.to_high transfer.ensures.1)
 
 pub overflow_add-processors : goal.overflow_add-processors
@@ -74,7 +56,7 @@ overflow_add-processors c =
     let a = c.args in
     let to = c.to in
     let transfer = c.transfer in
-    let range = view_in_range a.s.now a.v pre.view_of in
+    let range = view_in_range a.r.now.bytes.now a.r.now.view c.args.r.now.good in
     omega (arith, mul-le-mul range.processors_in.to_high transfer.ensures.1, pre.task_lt_tasks.1 to.result)
 
 pub loop-e-preserved : goal.loop-e-preserved
@@ -87,17 +69,14 @@ loop-e-preserved c =
     let to = c.to in
     let if1 = c.if-onward-eq0 in
     let transfer = c.transfer in
-    let larger = c.larger-most in
-    let W = workflow_of a.s.now a.v in
-    let range = view_in_range a.s.now a.v pre.view_of in
+    let larger = c.max-most in
+    let W = flow a.r.now in
+    let range = view_in_range a.r.now.bytes.now a.r.now.view c.args.r.now.good in
     let successor = at a.ranks.now to.result in
-    let next = larger.ensures ∙ ap (λ (t : ℕ). max loop.most (a.v.processors * t + (successor - 1))) transfer.ensures.0 in
+    let next = larger.ensures ∙ ap (λ (t : ℕ). max loop.most (a.r.now.view.processors * t + (successor - 1))) transfer.ensures.0 in
     passed_more W range a.ranks.now a.task a.begin a.end pre.begins.0 pre.begins.1 loop.e loop-test.true loop.invariant
     (ap (at a.ranks.now) to.ensures.0) (omega (arith, if1.false))
     (pre.task_lt_tasks.1 to.result) next
-
-pub all_minutes-requires : goal.all_minutes-requires
-all_minutes-requires c = record { view_of = c.requires.view_of; task_lt_tasks = c.requires.task_lt_tasks.0 }
 
 pub overflow_add-result-2 : goal.overflow_add-result-2
 overflow_add-result-2 c = omega (arith, c.loop-e.invariant.at_most, c.all_minutes.ensures.1)
@@ -112,8 +91,8 @@ returns c =
     let a = c.args in
     let loop = c.loop-e in
     let all-minutes = c.all_minutes in
-    let W = workflow_of a.s.now a.v in
-    let range = view_in_range a.s.now a.v pre.view_of in
+    let W = flow a.r.now in
+    let range = view_in_range a.r.now.bytes.now a.r.now.view c.args.r.now.good in
     let passed : loop.e ≡ a.end = omega (arith, loop.invariant.to_end) in
     passed_all W range a.ranks.now a.task a.begin a.end pre.begins.0 pre.begins.1 (rw passed at loop.invariant)
     (ap (λ (x : ℕ). x + loop.most + 1) all-minutes.ensures.0)

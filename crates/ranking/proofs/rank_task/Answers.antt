@@ -1,7 +1,7 @@
 -- A task has its rank already, or is held up by a successor, or its rank is now known.
 use mathlib.Core.Path.{◌≡◌}
 use Rattle.rules.specs.Workflow.{workflow}
-use Rattle.lookup.specs.Lookup.{workflow_of}
+use Rattle.lookup.specs.Flow.{flow}
 use Rattle.lookup.specs.Views.{view_in_range}
 use Rattle.laws.specs.Turned.{turned_none}
 use Rattle.laws.specs.Stores.{at}
@@ -9,20 +9,6 @@ use Rattle.ranking.specs.RankedLaws.{known_at_most}
 use Rattle.ranking.specs.RankedMore.{some_left, rank_turned}
 use native.Mathlib.Omega.{arith}
 use Rattle.ranking.proofs.rank_task.Goals as goal
-
-pub offset_bounds-ranks-task : goal.offset_bounds-ranks-task
-unfolding workflow
-offset_bounds-ranks-task c =
-    let pre = c.requires in
-    let a = c.args in
-    omega (arith, pre.task_lt_tasks.0, (view_in_range a.s.now a.v pre.view_of).tasks_in)
-
-pub bounds-ranks-task : goal.bounds-ranks-task
-unfolding workflow
-bounds-ranks-task c =
-    let pre = c.requires in
-    let a = c.args in
-    omega (arith, pre.task_lt_tasks.0, (view_in_range a.s.now a.v pre.view_of).tasks_in)
 
 pub returns-then-ranks-task-gt0 : goal.returns-then-ranks-task-gt0
 returns-then-ranks-task-gt0 c =
@@ -33,10 +19,10 @@ pub rank_of-rank-requires : goal.rank_of-rank-requires
 rank_of-rank-requires c =
     let pre = c.requires in
     let a = c.args in
-    let W = workflow_of a.s.now a.v in
-    let range = view_in_range a.s.now a.v pre.view_of in
+    let W = flow a.r.now in
+    let range = view_in_range a.r.now.bytes.now a.r.now.view c.args.r.now.good in
     let (task, so_far) = pre.task_lt_tasks in
-    record { view_of = pre.view_of; task_lt_tasks = (task, known_at_most W range a.ranks.now a.left so_far); begins = pre.begins }
+    record { task_lt_tasks = (task, known_at_most W range a.ranks.now a.left so_far); begins = pre.begins }
 
 pub returns-then-rank-eq0 : goal.returns-then-rank-eq0
 returns-then-rank-eq0 c =
@@ -44,20 +30,6 @@ returns-then-rank-eq0 c =
     let rank-of = c.rank_of-rank in
     let if2 = c.if-rank-eq0 in
     turned_none pre.task_lt_tasks.1 (λ unknown. rank-of.ensures.not_due if2.true)
-
-pub offset_bounds-ranks-task-2 : goal.offset_bounds-ranks-task-2
-unfolding workflow
-offset_bounds-ranks-task-2 c =
-    let pre = c.requires in
-    let a = c.args in
-    omega (arith, pre.task_lt_tasks.0, (view_in_range a.s.now a.v pre.view_of).tasks_in)
-
-pub bounds-ranks-task-2 : goal.bounds-ranks-task-2
-unfolding workflow
-bounds-ranks-task-2 c =
-    let pre = c.requires in
-    let a = c.args in
-    omega (arith, pre.task_lt_tasks.0, (view_in_range a.s.now a.v pre.view_of).tasks_in)
 
 pub overflow_sub-result : goal.overflow_sub-result
 unfolding workflow
@@ -67,8 +39,8 @@ overflow_sub-result c =
     let if1 = c.if-ranks-task-gt0 in
     let rank-of = c.rank_of-rank in
     let if2 = c.if-rank-eq0 in
-    let W = workflow_of a.s.now a.v in
-    let range = view_in_range a.s.now a.v pre.view_of in
+    let W = flow a.r.now in
+    let range = view_in_range a.r.now.bytes.now a.r.now.view c.args.r.now.good in
     let so_far = pre.task_lt_tasks.1 in
     let unknown : at a.ranks.now a.task ≡ 0 = omega (arith, if1.false) in
     let due = rank-of.ensures.due (omega (arith, if2.false)) in
@@ -82,8 +54,8 @@ returns c =
     let unranked = c.if-ranks-task-gt0 in
     let rank-of = c.rank_of-rank in
     let if2 = c.if-rank-eq0 in
-    let W = workflow_of a.s.now a.v in
-    let range = view_in_range a.s.now a.v pre.view_of in
+    let W = flow a.r.now in
+    let range = view_in_range a.r.now.bytes.now a.r.now.view c.args.r.now.good in
     let so_far = pre.task_lt_tasks.1 in
     let unknown : at a.ranks.now a.task ≡ 0 = omega (arith, unranked.false) in
     let due = rank-of.ensures.due (omega (arith, if2.false)) in

@@ -1,34 +1,18 @@
--- Where no `K` stands there is none; where one does, the record that is read is a share and no other.
-use mathlib.Core.Path.{◌≡◌, sym, ◌∙◌, ap}
-use mathlib.Core.List.{[], ◌∷◌}
-use Rattle.rules.specs.Fields.{K, kind_byte, K_share}
-use Rattle.rules.specs.Records as rules
-use Rattle.rules.specs.Reading.{thousandths, share_part}
-use Rattle.records.specs.declared.Record.TheVariants.{Share}
-use Rattle.records.specs.Settled.{record_settled}
-use Rattle.records.specs.Meaning.{meant_record, meant}
-use Rattle.reader.proofs.Found.{share_found}
-use Rattle.reader.proofs.OptionalLaws.{none_there, one_refused, one_read}
-use borrow.Author.Rules.{rules}
+-- Where a `K` stands, the value that is read is the share.
+use Rattle.std.proofs.Common.{rules}
+use Rattle.rules.specs.Fields.{K_share}
+use Rattle.rules.specs.Records.{read, share, share_at}
+use Rattle.rules.specs.Reading.{then, optional, share_part}
+use Rattle.reader.specs.Meaning.{meant_share}
+use Rattle.reader.proofs.OptionalLaws.{share_found, value_read, meaning_of}
 use Rattle.reader.proofs.read_share.Goals as goal
 
-pub returns-then-kind-ne75 : goal.returns-then-kind-ne75
-unfolding share_part kind_byte
-returns-then-kind-ne75 c = none_there _ K _ _ _ _ (λ is. c.if-kind-ne75.true (c.kind.ensures ∙ is))
-
-pub returns-in_default : goal.returns-in_default
-unfolding share_part kind_byte
-returns-in_default c =
-    one_refused _ K _ _ _ _ (sym c.kind.ensures ∙ c.if-kind-ne75.false) _ c.read_share-answer.ensures c.in_default.is
-    c.handed_up.ensures
-
--- What was read is what was due, and no other record.
-pub returns-in_default-found : goal.returns-in_default-found
-returns-in_default-found c =
-    absurd (c.in_default-found.not-Share _ (record_settled _ (Share _) (share_found _ _ _ (sym (ap meant c.in-Read.is) ∙ c.read_share-answer.ensures))))
-
 pub returns : goal.returns
-unfolding share_part kind_byte
+unfolding share_part optional
 returns c =
-    let is = ap meant_record (sym c.in-Share.is) ∙ (let it : let a = c.args in meant_record c.in-Read.found ≡ rules.share (K_share a.s.now a.c.at) = share_found _ _ _ (sym (ap meant c.in-Read.is) ∙ c.read_share-answer.ensures) in it) in
-    one_read _ K _ _ _ _ (sym c.kind.ensures ∙ c.if-kind-ne75.false) _ c.read_share-answer.ensures c.in-Read.is (ap thousandths cc)
+    let s = c.args.s.now in
+    let at = c.args.c.at in
+    let budget = c.args.budget in
+    meaning_of meant_share _ _ (share_at s budget at) at (K_share s at)
+    (c.optional.ensures (then (share_at s budget at) (λ next _. read next (K_share s at)))
+    (λ r answers. value_read share _ _ r (λ next x. share_found s budget at) (search rules)))

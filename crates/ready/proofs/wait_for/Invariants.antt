@@ -1,9 +1,5 @@
-use Prim.Native.Nat.{◌≤◌, ◌-◌}
 use Rattle.ready.specs.Ready.{WaitedFor}
 use Rattle.ready.proofs.wait_for.Given as goal
 
 abbrev pub invariant-loop-j : goal.invariant-loop-j
-invariant-loop-j l = (l.j ≤ l.m) × WaitedFor l.j l.on l.here l.across l.initial.ready l.ready
-
-abbrev pub decreases-loop-j : goal.decreases-loop-j
-decreases-loop-j l = l.m - l.j
+invariant-loop-j l = WaitedFor l.j l.on l.here l.across l.initial.ready l.ready

@@ -12,19 +12,17 @@ pub returns-then-not-overlaps : goal.returns-then-not-overlaps
 unfolding met_with
 returns-then-not-overlaps c = rw (eq-eqb _ _ c.if-window-processor.false, ← c.overlaps.ensures, c.if-not-overlaps.true)
 
-pub returns-in-Nothing : goal.returns-in-Nothing
+pub returns-in-Some : goal.returns-in-Some
 unfolding met_with earlier
-returns-in-Nothing c =
-    rw (eq-eqb _ _ c.if-window-processor.false, ← c.overlaps.ensures, c.if-not-overlaps.false, c.in-Nothing.is)
+returns-in-Some c =
+    rw (eq-eqb _ _ c.if-window-processor.false, ← c.overlaps.ensures, c.if-not-overlaps.false, c.in-Some.is, le-ltb _ _ c.if-met-down.true)
 
-pub returns-then-window-before : goal.returns-then-window-before
+pub returns-in_default : goal.returns-in_default
 unfolding met_with earlier
-returns-then-window-before c =
-    let overlapped = c.if-not-overlaps.false in
-    rw (eq-eqb _ _ c.if-window-processor.false, ← c.overlaps.ensures, overlapped, c.in-During.is, lt-ltb _ _ c.if-window-before.true)
+returns-in_default c =
+    rw (eq-eqb _ _ c.if-window-processor.false, ← c.overlaps.ensures, c.if-not-overlaps.false, c.in-Some.is, lt-ltb _ _ c.if-met-down.false)
 
-pub returns-else-window-before : goal.returns-else-window-before
+pub returns-in_default-2 : goal.returns-in_default-2
 unfolding met_with earlier
-returns-else-window-before c =
-    let overlapped = c.if-not-overlaps.false in
-    rw (eq-eqb _ _ c.if-window-processor.false, ← c.overlaps.ensures, overlapped, c.in-During.is, le-ltb _ _ c.if-window-before.false)
+returns-in_default-2 c =
+    rw (eq-eqb _ _ c.if-window-processor.false, ← c.overlaps.ensures, c.if-not-overlaps.false, c.in_default.is)

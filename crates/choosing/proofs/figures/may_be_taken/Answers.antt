@@ -1,16 +1,13 @@
 -- The first test fails, or the second decides.
-use borrow.Author.Tests.{le-leb, lt-leb}
+use Rattle.std.proofs.Common.{le-leb}
+use Rattle.std.proofs.lemmas.Bool.{lt-leb}
 use Rattle.choosing.specs.Figured.{may_by}
 use Rattle.choosing.proofs.figures.may_be_taken.Goals as goal
 
-pub returns-then-g-cost : goal.returns-then-g-cost
+pub returns-then-cost-g : goal.returns-then-cost-g
 unfolding may_by
-returns-then-g-cost c =
-    let a = c.args in
-    rw (lt-leb a.cost a.g.best c.if-g-cost.true)
+returns-then-cost-g c = rw (le-leb c.args.cost c.args.g.best c.if-cost-g.true) c.affordable.ensures
 
-pub returns : goal.returns
+pub returns-else-cost-g : goal.returns-else-cost-g
 unfolding may_by
-returns c =
-    let a = c.args in
-    rw (le-leb a.cost a.g.best c.if-g-cost.false) c.affordable.ensures
+returns-else-cost-g c = rw (lt-leb c.args.cost c.args.g.best c.if-cost-g.false)

@@ -1,13 +1,11 @@
 -- By what the score and the test ensure.
-use Prim.Native.Nat.{ℕ, ◌+◌}
-use mathlib.Core.Bool.{Bool, cond}
-use mathlib.Core.Path.{◌∙◌, ap₂}
 use Rattle.choosing.specs.Figured.{standing_by}
 use Rattle.choosing.proofs.figures.standing.Goals as goal
 
-pub returns : goal.returns
+pub returns-then-may_be_taken : goal.returns-then-may_be_taken
 unfolding standing_by
-returns c =
-    let may = c.may_be_taken in
-    let score = c.score-above in
-    c.either.ensures ∙ ap₂ (λ (t : Bool) (x : ℕ). cond t (x + 1) 0) may.ensures score.ensures.0
+returns-then-may_be_taken c = rw (← c.may_be_taken.ensures, c.if-may_be_taken.true, c.score-above.ensures.0)
+
+pub returns-else-may_be_taken : goal.returns-else-may_be_taken
+unfolding standing_by
+returns-else-may_be_taken c = rw (← c.may_be_taken.ensures, c.if-may_be_taken.false)

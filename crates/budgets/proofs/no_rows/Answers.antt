@@ -1,6 +1,0 @@
--- Four arrays of 0.
-use Rattle.placing.specs.Arrays.{columns_first}
-use Rattle.budgets.proofs.no_rows.Goals as goal
-
-pub returns : goal.returns
-returns c = columns_first

@@ -1,8 +1,0 @@
--- By the cases of the answer.
-use Rattle.parts.proofs.handed_up.Goals as goal
-
-pub returns-in-Read : goal.returns-in-Read
-returns-in-Read c = rw c.in-Read.is
-
-pub returns-in-Refused : goal.returns-in-Refused
-returns-in-Refused c = rw c.in-Refused.is
