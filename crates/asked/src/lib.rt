@@ -20,8 +20,10 @@ pub fn plan_columns(request: &[u8], method: Method, lent: usize, rows: &mut Rows
     requires { RowsAre [] rows.old }
     ensures { PlanOf (outcome_asked (meant_method method) request.now lent) (planned_in rows.new result) }
 {
-    let r = Request::read(request)?;
-    planner::plan_good(&r, method, lent, rows)
+    match Request::read(request) {
+        Ok(r) => planner::plan_good(&r, method, lent, rows),
+        Err(refusal) => Err(refusal),
+    }
 }
 
 // The plan of a request by a method, with so many rows lent, by value.

@@ -36,9 +36,9 @@ impl<const N: usize> Text<N> {
         }
     }
 
-    // The bytes.
+    // The bytes, of which there are no more than its capacity.
     pub fn as_slice(&self) -> &[u8]
-        ensures { result.now ≡ self.now }
+        ensures { (result.now ≡ self.now) × (length result.now ≤ N) }
     {
         &self.bytes[..self.length]
     }

@@ -8,8 +8,11 @@ ghost use Rattle.rules.specs.Range.{range_line};
 ghost use Rattle.planner.specs.Planned.{meant_answer, meant_costs};
 ghost use Rattle.lines.specs.Lines.{column_lines};
 
+mod lent;
+
 use budgets::Rows;
 use decimals::Text;
+pub use lent::{write_first_line, write_range_line, write_refusal, write_rows};
 use lookup::Request;
 use planner::{Answer, Range};
 use refusals::Refusal;

@@ -61,6 +61,7 @@ later_by M W = rules.later_checks M W (all_rows M W)
 unfoldable pub plan_alone : Name → Workflow → rules.Outcome
 plan_alone M W = rules.plan (unbound W) (all_rows M (unbound W))
 
-abbrev pub rows_told : Answer → ℕ
+-- How many rows come with an answer, whatever its refusals are told by.
+abbrev pub rows_told : {E : Type 0} → Result Summary E → ℕ
 rows_told (Ok plan) = plan.n
 rows_told (Err r) = 0

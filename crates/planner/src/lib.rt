@@ -133,8 +133,8 @@ pub fn plan_good(r: &Request<'_>, method: Method, lent: usize, rows: &mut Rows) 
     plan_ranked(r, method, &ranks, &edges_at, rows)
 }
 
-// How many rows an answer comes with.
-pub fn rows_of(answer: Answer) -> u64
+// How many rows an answer comes with, whatever a refusal is told by.
+pub fn rows_of<E: Drop>(answer: Result<Summary, E>) -> u64
     ensures { result ≡ rows_told answer }
 {
     answer.map_or(0, |plan| plan.n)

@@ -11,7 +11,7 @@ use Rattle.rules.specs.Records.{Read, read, stopped, unless, header, header_at}
 use Rattle.rules.specs.Reading.{Request, nothing_after, read_request}
 use Rattle.good.specs.Records.{record_read}
 use Rattle.good.specs.ReadIsGood.{read_to_the_end}
-use Rattle.records.proofs.Laws.{number_not_0}
+use Rattle.refusals.specs.Settled.{number_not_0}
 use Rattle.reader.specs.declared.View.{View}
 use Rattle.reader.specs.Meaning.{meant_reading}
 

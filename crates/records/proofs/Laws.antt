@@ -6,6 +6,7 @@ use Rattle.refusals.specs.declared.Refusal.{Refusal}
 use Rattle.refusals.specs.declared.Fault.{Fault}
 use Rattle.refusals.specs.declared.Fault.TheVariants.{CutShort, OtherKind, OutOfOrder, OutOfRange, BadLabel, BytesAfter, FewRows, Cycle, LowBudget, Late}
 use Rattle.refusals.specs.Numbers.{number}
+use Rattle.refusals.specs.Settled.{number_not_0}
 use Rattle.rules.specs.Fields.{Kind, size}
 use Rattle.rules.specs.Records.{Record, Read, read, stopped, first_fault, opening, answered, record_at}
 use Rattle.records.specs.declared.Cursor.{Cursor}
@@ -23,19 +24,6 @@ unfolding first_fault
 faults_after [] more e = refl
 faults_after (zero ∷ checks) more e = faults_after checks more e
 faults_after (suc number ∷ checks) more e = absurd (omega arith)
-
--- No fault has the number 0.
-pub number_not_0 : (fault : Fault) → 0 ≡ number fault → ⊥
-number_not_0 CutShort e = omega arith
-number_not_0 OtherKind e = omega arith
-number_not_0 OutOfOrder e = omega arith
-number_not_0 OutOfRange e = omega arith
-number_not_0 BadLabel e = omega arith
-number_not_0 BytesAfter e = omega arith
-number_not_0 FewRows e = omega arith
-number_not_0 Cycle e = omega arith
-number_not_0 LowBudget e = omega arith
-number_not_0 Late e = omega arith
 
 fault_kept : (checks more : List ℕ) (fault : Fault) → first_fault checks ≡ number fault → first_fault (checks ++ more) ≡ number fault
 unfolding first_fault

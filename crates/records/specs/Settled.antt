@@ -1,10 +1,12 @@
 -- Two records or answers with one meaning are one: a contract that settles the meaning settles the answer.
-use Rattle.std.specs.Prelude.{ℕ, ◌≡◌, refl, [], ◌∷◌, get_or, Result, Ok, Err}
+use Rattle.std.specs.Prelude.{ℕ, ◌≡◌, refl, List, [], ◌∷◌, get_or, Result, Ok, Err}
 use Rattle.std.proofs.Common.{sym, ◌∙◌, ap}
 use Rattle.refusals.specs.declared.Fault.{Fault}
 use Rattle.refusals.specs.declared.Fault.TheVariants.{CutShort, OtherKind, OutOfOrder, OutOfRange, BadLabel, BytesAfter, FewRows, Cycle, LowBudget, Late}
 use Rattle.refusals.specs.declared.Refusal.{Refusal}
 use Rattle.refusals.specs.Numbers.{number}
+use Rattle.refusals.specs.Settled as refusals
+use Rattle.rules.specs.Fields as fields
 use Rattle.rules.specs.Records as rules
 use Rattle.records.specs.declared.Cursor.{Cursor}
 use Rattle.records.specs.declared.Header.{Header}
@@ -14,7 +16,7 @@ use Rattle.records.specs.declared.Window.{Window}
 use Rattle.records.specs.declared.Task.{Task}
 use Rattle.records.specs.declared.Minutes.{Minutes}
 use Rattle.records.specs.declared.Edge.{Edge}
-use Rattle.records.specs.Meaning.{meant_header, meant_processor, meant_window, meant_task, meant_minutes, meant_edge, meant_end, meant}
+use Rattle.records.specs.Meaning.{meant_header, meant_processor, meant_window, meant_task, meant_minutes, meant_edge, meant_end, meant, Checked, Opened}
 
 pub header_settled : (a b : Header) → meant_header a ≡ meant_header b → a ≡ b
 header_settled a b same =
@@ -103,3 +105,20 @@ answer_settled meaning settled (Ok (x, next)) (Ok (y, after)) same =
 answer_settled meaning settled (Ok x) (Err r) same = cc
 answer_settled meaning settled (Err r) (Ok x) same = cc
 answer_settled meaning settled (Err r) (Err q) same = ap Err (refusal_settled r q same)
+
+-- What a check of a record says is settled, and what its opening says.
+pub checked_settled : (check at : ℕ) (a b : Result (Unit {0}) Refusal) → Checked check at a → Checked check at b → a ≡ b
+checked_settled check at (Ok _) (Ok _) one other = refl
+checked_settled check at (Ok _) (Err r) one other = absurd (refusals.number_not_0 r.fault (sym one ∙ other.0))
+checked_settled check at (Err r) (Ok _) one other = absurd (refusals.number_not_0 r.fault (sym other ∙ one.0))
+checked_settled check at (Err r) (Err q) one other =
+    ap Err (refusals.refusal_settled r q (sym one.0 ∙ other.0) (sym one.1 ∙ other.1))
+
+pub opened_settled : (s : List ℕ) (at : ℕ) (k : fields.Kind) (a b : Result Cursor Refusal) → Opened s at k a → Opened s at k b → a ≡ b
+opened_settled s at k (Ok past) (Ok after) one other =
+    let place : past.at ≡ after.at = one.1 ∙ sym other.1 in
+    λ i. Ok (record { at = place i })
+opened_settled s at k (Ok past) (Err r) one other = absurd (refusals.number_not_0 r.fault (sym one.0 ∙ other.0))
+opened_settled s at k (Err r) (Ok past) one other = absurd (refusals.number_not_0 r.fault (sym other.0 ∙ one.0))
+opened_settled s at k (Err r) (Err q) one other =
+    ap Err (refusals.refusal_settled r q (sym one.0 ∙ other.0) (sym one.1 ∙ other.1))

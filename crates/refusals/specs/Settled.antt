@@ -1,6 +1,6 @@
 -- A number is that of one fault alone, so that a refusal is settled by its number and place.
 use Rattle.std.specs.Prelude.{ℕ, ◌≡◌, refl, cond, eqb}
-use Rattle.std.proofs.Common.{sym, ap, ◌∙◌}
+use Rattle.std.proofs.Common.{sym, ap, ◌∙◌, arith}
 use Rattle.refusals.specs.declared.Fault.{Fault}
 use Rattle.refusals.specs.declared.Fault.TheVariants.{CutShort, OtherKind, OutOfOrder, OutOfRange, BadLabel, BytesAfter, FewRows, Cycle, LowBudget, Late}
 use Rattle.refusals.specs.declared.Refusal.{Refusal}
@@ -41,3 +41,16 @@ pub refusal_settled : (a b : Refusal) → number a.fault ≡ number b.fault → 
 refusal_settled a b same place =
     let fault = number_settled a.fault b.fault same in
     λ t. record { fault = fault t; place = place t }
+
+-- No fault has the number 0.
+pub number_not_0 : (fault : Fault) → 0 ≡ number fault → ⊥
+number_not_0 CutShort e = omega arith
+number_not_0 OtherKind e = omega arith
+number_not_0 OutOfOrder e = omega arith
+number_not_0 OutOfRange e = omega arith
+number_not_0 BadLabel e = omega arith
+number_not_0 BytesAfter e = omega arith
+number_not_0 FewRows e = omega arith
+number_not_0 Cycle e = omega arith
+number_not_0 LowBudget e = omega arith
+number_not_0 Late e = omega arith

@@ -49,11 +49,10 @@ pub fn plan(request: &[u8], method: Method, rows: &mut [Row]) -> Answer
     ensures { PlannedRows (meant_method method) request.now rows.old rows.new result }
 {
     let lent = rows.len();
-    let mut columns = Rows::none();
-    let answer = asked::plan_columns(request, method, lent, &mut columns);
-    let n = planner::rows_of(answer) as usize;
-    store(rows, n, &columns);
-    answer
+    let planning = asked::plan(request, method, lent);
+    let n = planner::rows_of(planning.answer) as usize;
+    store(rows, n, &planning.rows);
+    planning.answer
 }
 
 // The answer, and 64 rows, as many as a request has tasks at the most.

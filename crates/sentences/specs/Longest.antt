@@ -1,9 +1,10 @@
 -- How long the text of a reason is at most: its numbers fit 64 bits, so that each has at most 20 digits.
-use Rattle.std.specs.Prelude.{ℕ, ◌+◌, ◌^◌, ◌≤◌, ◌<◌, length}
+use Rattle.std.specs.Prelude.{ℕ, ◌+◌, ◌^◌, ◌≤◌, ◌<◌, List, length}
 use Rattle.std.proofs.Common.{arith, length-append}
 use Rattle.rules.specs.Text.{bytes, decimal, line, first_line}
 use Rattle.rules.specs.Why.{Why, late_data, in_window, beside_row, own_start, no_task, no_plan, why_text}
 use Rattle.decimals.specs.Decimals.{decimal_length}
+use Rattle.decimals.specs.Wrote.{Room}
 
 abbrev pub InWords : Why → Type 0
 InWords (late_data from minute) = (from < 2 ^ 64) × (minute < 2 ^ 64)
@@ -32,3 +33,6 @@ why_at_most (no_plan number place) (number_in, IsPlace_in) =
 -- Where there is room for 180 bytes there is room for each.
 pub room_for_why : (w : Why) → InWords w → (before N : ℕ) → before + 180 ≤ N → before + length (why_text w) ≤ N
 room_for_why w words before N enough = omega (arith, why_at_most w words)
+
+pub lent_room_for_why : {out : List ℕ} (w : Why) → InWords w → 180 ≤ length out → Room out 0 (why_text w)
+lent_room_for_why w words enough = record { fits = omega (arith, why_at_most w words) }

@@ -5,6 +5,7 @@ ghost use Rattle.std.specs.Prelude.{◌≡◌, ◌+◌, ◌≤◌, ◌++◌, len
 ghost use Rattle.rules.specs.Why.{why_text};
 ghost use Rattle.rules.specs.Why as rules;
 ghost use Rattle.reasons.specs.Meant.{meant_why};
+ghost use Rattle.decimals.specs.Wrote.{Wrote};
 ghost use Rattle.sentences.specs.Sentences.{one_text, two_text};
 
 use decimals::Text;
@@ -103,4 +104,14 @@ pub fn put_why<const N: usize>(text: &mut Text<N>, why: Why)
         ),
         Why::NoPlan { number, place } => put_refusal(text, number, place),
     }
+}
+
+// The same over the front of a lent buffer, and where it ends.
+pub fn write_why(out: &mut [u8], why: Why) -> usize
+    requires { 180 ≤ length out.old }
+    ensures { Wrote out.old 0 (why_text (meant_why why)) out.new result }
+{
+    let mut said = Text::<180>::new();
+    put_why(&mut said, why);
+    decimals::put_bytes(out, 0, said.as_slice())
 }

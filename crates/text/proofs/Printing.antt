@@ -1,5 +1,5 @@
 -- The two ways that printing ends: the buffer is too small and keeps its content, or the text is written over its front.
-use Rattle.std.specs.Prelude.{ℕ, ◌<◌, refl, Bool, List, ◌++◌, drop, leb, Result, Ok, Err}
+use Rattle.std.specs.Prelude.{ℕ, ◌<◌, refl, Bool, List, ◌++◌, take, drop, leb, Result, Ok, Err}
 use Rattle.std.proofs.Math.Path.{◌≡◌}
 use Rattle.std.proofs.Common.{sym, ap, subst, ◌∙◌, arith, length-append, length-drop}
 use Rattle.std.proofs.Math.Bool.{true, false, cond}
@@ -23,6 +23,14 @@ module _ (t out : List ℕ) where
       let long : end ≡ length t = omega (arith, wrote.ends) in
       record { answer_is = rw fits (ap Ok long); after_is = rw fits (wrote_from_start wrote) }
 
+-- A text that stands written over the front of another buffer is printed from there.
+module _ {whole whole' t : List ℕ} {n : ℕ} (wrote : Wrote whole 0 t whole' n) where
+  pub front_length : n ≡ length (take n whole')
+  front_length = rw wrote.front (omega (arith, wrote.ends))
+
+  pub front_printed : {out out' : List ℕ} {r : Result ℕ TooSmall} → PrintedAs (take n whole') out out' r → PrintedAs t out out' r
+  front_printed = rw wrote.front (λ printed. printed)
+
 -- Either answer tells how long the text is.
 abbrev pub told_length : Result ℕ TooSmall → ℕ
 told_length (Ok n) = n
@@ -31,6 +39,13 @@ told_length (Err small) = small.needed
 pub printed_tells : (t : List ℕ) (room : ℕ) → told_length (printed t room) ≡ length t
 unfolding printed
 printed_tells t room = elim (leb (length t) room) as (λ b. told_length (cond b (Ok (length t)) (Err (record { needed = length t }))) ≡ length t) [ true ↦ refl | false ↦ refl ]
+
+module _ (t : List ℕ) (room : ℕ) {n : ℕ} where
+  pub whole_printed : Ok n ≡ printed t room → n ≡ length t
+  whole_printed e = ap told_length e ∙ printed_tells t room
+
+  pub too_small_printed : Err (record { needed = n }) ≡ printed t room → n ≡ length t
+  too_small_printed e = ap told_length e ∙ printed_tells t room
 
 -- Printing keeps the buffer's length.
 length_after : (t out : List ℕ) → length (after t out) ≡ length out

@@ -13,6 +13,7 @@ use Rattle.rules.specs.Budget.{workflow_for}
 use Rattle.rules.specs.Answer.{Outcome, outcome_asked, answer_asked}
 use Rattle.rules.specs.Text.{row_line, row_lines, text_asked}
 use Rattle.rules.specs.Range.{range, range_text}
+use Rattle.decimals.specs.Wrote.{Room}
 use Rattle.good.specs.Ranges.{InRange}
 use Rattle.good.specs.Labels.{good_label}
 use Rattle.laws.specs.InForce.{tasks_held}
@@ -56,6 +57,9 @@ module _ (M : Name) (s : List ℕ) where
   pub text_at_most : length (text_asked M s) ≤ 2_145
   unfolding text_asked
   text_at_most = rw length-append (omega (arith, first_line_at_most (answer_asked M s 64) (answer_in M s), rows_at_most))
+
+  pub room_for_text : (out : List ℕ) → 2_145 ≤ length out → Room out 0 (text_asked M s)
+  room_for_text out enough = record { fits = omega (arith, text_at_most) }
 
 pub range_at_most : (s : List ℕ) → length (range_text s) ≤ 24
 unfolding range_text range

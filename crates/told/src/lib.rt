@@ -5,6 +5,8 @@ ghost use Rattle.std.specs.Prelude.{◌≡◌};
 ghost use Rattle.reader.specs.Meaning.{meant_deadline, meant_share};
 ghost use Rattle.planner.specs.Planned.{meant_answer, meant_costs};
 ghost use Rattle.reasons.specs.Meant.{meant_why};
+ghost use Rattle.rules.specs.Answer.{refused};
+ghost use Rattle.rules.specs.Range.{no_range};
 ghost use Rattle.told.specs.Told.{told_deadline, told_given, told_share, told_answer, told_costs, told_why};
 
 use planner::{Answer, Range};
@@ -45,6 +47,19 @@ pub struct ZabgurinAnswer {
     pub left: u64,
 }
 
+impl ZabgurinAnswer {
+    // A refusal by any number, with its place.
+    pub fn refused(number: u64, place: u64) -> ZabgurinAnswer
+        ensures { result ≡ told_answer (refused number place) }
+    {
+        ZabgurinAnswer {
+            number,
+            place,
+            ..ZabgurinAnswer::default()
+        }
+    }
+}
+
 impl From<Answer> for ZabgurinAnswer {
     ghost from_gives = { λ answer told. told ≡ told_answer (meant_answer answer) };
 
@@ -57,11 +72,7 @@ impl From<Answer> for ZabgurinAnswer {
                 left: plan.left,
                 ..ZabgurinAnswer::default()
             },
-            Err(refusal) => ZabgurinAnswer {
-                number: refusal.fault.number(),
-                place: refusal.place,
-                ..ZabgurinAnswer::default()
-            },
+            Err(refusal) => ZabgurinAnswer::refused(refusal.fault.number(), refusal.place),
         }
     }
 }
@@ -76,6 +87,19 @@ pub struct ZabgurinCosts {
     pub heft: u64,
 }
 
+impl ZabgurinCosts {
+    // A refusal by any number, with its place.
+    pub fn refused(number: u64, place: u64) -> ZabgurinCosts
+        ensures { result ≡ told_costs (no_range number place) }
+    {
+        ZabgurinCosts {
+            number,
+            place,
+            ..ZabgurinCosts::default()
+        }
+    }
+}
+
 impl From<Result<Range, Refusal>> for ZabgurinCosts {
     ghost from_gives = { λ costs told. told ≡ told_costs (meant_costs costs) };
 
@@ -86,11 +110,7 @@ impl From<Result<Range, Refusal>> for ZabgurinCosts {
                 heft: range.heft,
                 ..ZabgurinCosts::default()
             },
-            Err(refused) => ZabgurinCosts {
-                number: refused.fault.number(),
-                place: refused.place,
-                ..ZabgurinCosts::default()
-            },
+            Err(refusal) => ZabgurinCosts::refused(refusal.fault.number(), refusal.place),
         }
     }
 }

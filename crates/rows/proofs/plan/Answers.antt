@@ -4,7 +4,7 @@ use Rattle.rows.specs.Stored.{due_in_reach, rows_planned}
 use Rattle.rows.proofs.plan.Goals as goal
 
 pub store-requires : goal.store-requires
-store-requires c = due_in_reach (meant_method c.args.method) c.args.request.now _ c.plan_columns-answer.ensures c.rows_of-n.ensures
+store-requires c = due_in_reach (meant_method c.args.method) c.args.request.now _ c.plan-planning.ensures c.rows_of-n.ensures
 
 pub returns : goal.returns
-returns c = rows_planned (meant_method c.args.method) c.args.request.now c.plan_columns-answer.ensures c.rows_of-n.ensures c.store.ensures
+returns c = rows_planned (meant_method c.args.method) c.args.request.now c.plan-planning.ensures c.rows_of-n.ensures c.store.ensures

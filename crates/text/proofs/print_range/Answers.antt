@@ -13,5 +13,5 @@ put_range_line-requires c =
 pub returns : goal.returns
 unfolding range_text
 returns c =
-    let printed = c.as_slice.ensures ∙ c.put_range_line.ensures ∙ rw (c.new-text.ensures, c.range-costs.ensures) in
+    let printed = c.as_slice.ensures.0 ∙ c.put_range_line.ensures ∙ rw (c.new-text.ensures, c.range-costs.ensures) in
     rw printed at c.print_text.ensures

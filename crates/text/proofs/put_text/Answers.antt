@@ -1,5 +1,5 @@
 -- By the cases of the reading: the refusal's line, or the text of a good request.
-use Rattle.std.proofs.Common.{sym, rules}
+use Rattle.std.proofs.Common.{rules}
 use Rattle.choosing.specs.Named.{meant_method}
 use Rattle.text.specs.TextParts.{refused_text}
 use Rattle.text.proofs.put_text.Goals as goal
