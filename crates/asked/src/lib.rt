@@ -20,6 +20,7 @@ pub fn plan_columns(request: &[u8], method: Method, lent: usize, rows: &mut Rows
     requires { RowsAre [] rows.old }
     ensures { PlanOf (outcome_asked (meant_method method) request.now lent) (planned_in rows.new result) }
 {
+    // No `?`: with it an edit that puts another place into the refusal would be refused for its form, and not for the place.
     match Request::read(request) {
         Ok(r) => planner::plan_good(&r, method, lent, rows),
         Err(refusal) => Err(refusal),

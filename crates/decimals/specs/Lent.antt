@@ -1,4 +1,4 @@
--- Bytes written over a lent buffer one after the other are one write. `put_bytes` is the one write that is left; a text is appended to.
+-- Bytes written over a lent buffer one after the other are one write. Each is `put_bytes`' own; a text is appended to.
 use Rattle.std.specs.Prelude.{ℕ, ◌+◌, ◌≡◌, refl, List, [], ◌∷◌, ◌++◌, length, take, drop, set}
 use Rattle.std.proofs.Common.{sym, ap, ◌∙◌, append_assoc, append-nil, arith, add-one, length-append, length-take-le, take-suc-set, drop-set-lt, drop-drop}
 use Rattle.std.proofs.lemmas.List.{set-append_left}

@@ -14,6 +14,7 @@ use lookup::Request;
 use planner::{Answer, Range, Summary};
 use refusals::Refusal;
 
+// "`no `, number, place"
 pub fn write_refusal(out: &mut [u8], number: u64, place: u64) -> usize
     requires { Room out.old 0 (first_line (refused number place)) }
     ensures { Wrote out.old 0 (first_line (refused number place)) out.new result }
@@ -41,6 +42,7 @@ fn write_summary(out: &mut [u8], n: u64, length: u64, cost: u64, left: u64) -> u
     decimals::put_bytes(out, 0, text.as_slice())
 }
 
+// The first line, of a plan or of a refusal.
 pub fn write_first_line(out: &mut [u8], answer: Answer) -> usize
     requires { Room out.old 0 (first_line (meant_answer answer)) }
     ensures { Wrote out.old 0 (first_line (meant_answer answer)) out.new result }
@@ -60,6 +62,7 @@ fn write_costs(out: &mut [u8], cheapest: u64, heft: u64) -> usize
     decimals::put_bytes(out, 0, text.as_slice())
 }
 
+// The line of the range, or of a refusal.
 #[tactic(auto, unfolding(rules::specs::Range::range_line))]
 pub fn write_range_line(out: &mut [u8], costs: Result<Range, Refusal>) -> usize
     requires { Room out.old 0 (range_line (meant_costs costs)) }
